@@ -4,15 +4,15 @@ ghost use Rattle.words.specs.Why.{numbered};
 ghost use Rattle.words.specs.Code.{read_short, write_short, read_long, write_long};
 ghost use Rattle.abi.specs.Face.{returned, itself};
 
-use words::{LongRead, LongWritten, ShortRead, ShortWritten};
+use words::{NotCode, TooLarge};
 
 // The figure of a received short word, or -1.
 pub fn atc2_read_short(word: u8) -> i32
     ensures { result ≡ returned itself (numbered (read_short word)) }
 {
     match words::read_short(word) {
-        ShortRead::Figure(x) => x as i32,
-        ShortRead::NotCode(_) => -1,
+        Ok(x) => x as i32,
+        Err(NotCode(_)) => -1,
     }
 }
 
@@ -21,8 +21,8 @@ pub fn atc2_write_short(figure: u8) -> i32
     ensures { result ≡ returned itself (write_short figure) }
 {
     match words::write_short(figure) {
-        ShortWritten::Word(w) => w as i32,
-        ShortWritten::TooLarge => -2,
+        Ok(w) => w as i32,
+        Err(TooLarge) => -2,
     }
 }
 
@@ -31,8 +31,8 @@ pub fn atc2_read_long(word: u16) -> i32
     ensures { result ≡ returned itself (numbered (read_long word)) }
 {
     match words::read_long(word) {
-        LongRead::Figure(x) => x as i32,
-        LongRead::NotCode(_) => -1,
+        Ok(x) => x as i32,
+        Err(_) => -1,
     }
 }
 
@@ -41,7 +41,7 @@ pub fn atc2_write_long(figure: u16) -> i32
     ensures { result ≡ returned itself (write_long figure) }
 {
     match words::write_long(figure) {
-        LongWritten::Word(w) => w as i32,
-        LongWritten::TooLarge => -2,
+        Ok(w) => w as i32,
+        Err(_) => -2,
     }
 }

@@ -6,7 +6,7 @@ ghost use Rattle.abi.specs.Face.{returned, left};
 ghost use Rattle.abi.specs.Contacts.{search_in, begun_number, begun_put, next_number, next_put, next_moved, judged_number, judged_put};
 
 use crate::number::as_one;
-use contact::{Judged, Next, Search, SearchBegun};
+use contact::{Judged, NextRefused, Search};
 
 // 0, with the beginning of a search over the stretch in `search`; -5.
 pub fn atc2_begin(buf: &[u8], start: usize, len: usize, search: &mut [u64; 3]) -> i32
@@ -14,11 +14,11 @@ pub fn atc2_begin(buf: &[u8], start: usize, len: usize, search: &mut [u64; 3]) -
     ensures search_after { search.new ≡ left begun_put (begin buf.now start len) search.old }
 {
     match contact::begin(buf, start, len) {
-        SearchBegun::Search(begun) => {
+        Ok(begun) => {
             *search = [begun.next as u64, begun.left as u64, begun.history as u64];
             0
         }
-        SearchBegun::Beyond => -5,
+        Err(_) => -5,
     }
 }
 
@@ -36,18 +36,15 @@ pub fn atc2_next_contact(buf: &[u8], search: &mut [u64; 3], out: &mut [u64; 2]) 
         history: (lent[2] % 65536) as u16,
     };
     match contact::next_contact(from, buf) {
-        Next::Contact {
-            start,
-            length,
-            then,
-        } => {
+        Ok(Some(contact)) => {
+            let then = contact.then;
             *search = [then.next as u64, then.left as u64, then.history as u64];
-            *out = [start as u64, length as u64];
+            *out = [contact.start as u64, contact.length as u64];
             1
         }
-        Next::NoFurther => 0,
-        Next::Cut => -9,
-        Next::Beyond => -5,
+        Ok(None) => 0,
+        Err(NextRefused::Cut) => -9,
+        Err(NextRefused::Beyond) => -5,
     }
 }
 

@@ -7,7 +7,6 @@ ghost use Rattle.abi.specs.Stores.{kept_number};
 ghost use Rattle.abi.specs.Leads.{heard, ear_left, records_left, used_left, ear_after_meant};
 
 use crate::refusal::of_settings;
-use settings::Asked;
 
 // 0, with a hearing at a lead's beginning in `ear`.
 pub fn atc2_record_begin(ear: &mut [u8; 184]) -> i32
@@ -39,8 +38,8 @@ pub fn atc2_record(
 {
     let held = state_bytes::store_in(store);
     match settings::at(held, 0) {
-        Asked::Refused(bad) => of_settings(bad),
-        Asked::InForce(_) => {
+        Err(bad) => of_settings(bad),
+        Ok(_) => {
             let lent = *ear;
             let from = ear_bytes::ear_in(&lent);
             let wrote = ear_bytes::hear(from, held, lead, records);

@@ -8,7 +8,7 @@ ghost use Rattle.abi.specs.Face.{returned, left, itself};
 ghost use Rattle.abi.specs.Rides.{style_of, listed, listed_number, listed_put, ride_left, ending};
 
 use crate::refusal::of_settings;
-use ride_text::Done;
+use ride::TraceRefused;
 
 // Whether a style is with reasons.
 fn with_reasons(style: u8) -> bool
@@ -56,14 +56,14 @@ pub fn atc2_ride_list(
     let after = listed.ride;
     let done = listed.done;
     match done {
-        Done::Took { records, bytes } => {
+        Ok(took) => {
             let made = ride_bytes::ride_bytes(after);
             *state = made;
-            *out = [records as u64, bytes as u64];
+            *out = [took.records as u64, took.bytes as u64];
             0
         }
-        Done::Settings(bad) => of_settings(bad),
-        Done::Length => -16,
+        Err(TraceRefused::Settings(bad)) => of_settings(bad),
+        Err(TraceRefused::Length) => -16,
     }
 }
 

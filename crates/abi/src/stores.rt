@@ -7,7 +7,6 @@ ghost use Rattle.abi.specs.Face.{returned};
 ghost use Rattle.abi.specs.Stores.{kept_number, store_left, store_after_meant, change_of};
 
 use crate::refusal::{below_zero, of_settings};
-use settings::Verdict;
 use settings_text::Condition;
 
 // 0, with a store of one version, at place 0, in `store`; -4 or -19.
@@ -20,12 +19,12 @@ pub fn atc2_settings_begin(gap: u32, s: u8, t: u8, store: &mut [u8; 1032]) -> i3
     let made = begun.store;
     let verdict = begun.verdict;
     match verdict {
-        Verdict::Kept => {
+        Ok(()) => {
             let bytes = state_bytes::store_bytes(made);
             *store = bytes;
             0
         }
-        Verdict::Refused(bad) => of_settings(bad),
+        Err(bad) => of_settings(bad),
     }
 }
 
@@ -41,12 +40,12 @@ pub fn atc2_settings_add(store: &mut [u8; 1032], place: u32, gap: u32, s: u8, t:
     let made = added.store;
     let verdict = added.verdict;
     match verdict {
-        Verdict::Kept => {
+        Ok(()) => {
             let bytes = state_bytes::store_bytes(made);
             *store = bytes;
             0
         }
-        Verdict::Refused(bad) => of_settings(bad),
+        Err(bad) => of_settings(bad),
     }
 }
 

@@ -5,16 +5,16 @@ ghost use Rattle.telegram.specs.Place.{find};
 ghost use Rattle.abi.specs.Face.{returned, left, as_one, told, found_number, found_put};
 
 use crate::number::as_one;
-use telegram::{Found, TelegramRead};
+use telegram::{BadWord, NotFound};
 
 // Three received words as one number, or -1 or -3.
 pub fn atc2_read_telegram(x: u8, y: u8, z: u8) -> i32
     ensures { result ≡ returned as_one (told (telegram x y z)) }
 {
     match telegram::read(x, y, z) {
-        TelegramRead::Is(t) => as_one(t) as i32,
-        TelegramRead::NotCode(_, _) => -1,
-        TelegramRead::Fifteen(_) => -3,
+        Ok(t) => as_one(t) as i32,
+        Err(BadWord::NotCode(_, _)) => -1,
+        Err(BadWord::Fifteen(_)) => -3,
     }
 }
 
@@ -24,12 +24,12 @@ pub fn atc2_find(buf: &[u8], start: usize, len: usize, s: u8, t: u8, out: &mut [
     ensures out_after { out.new ≡ left found_put (find buf.now start len s t) out.old }
 {
     match telegram::find(buf, start, len, s, t) {
-        Found::At { place, telegram } => {
-            *out = [place as u64, as_one(telegram) as u64];
+        Ok(found) => {
+            *out = [found.place as u64, as_one(found.telegram) as u64];
             0
         }
-        Found::NotSeven => -4,
-        Found::Beyond => -5,
-        Found::NoPlace => -6,
+        Err(NotFound::NotSeven) => -4,
+        Err(NotFound::Beyond) => -5,
+        Err(NotFound::NoPlace) => -6,
     }
 }

@@ -5,7 +5,7 @@ ghost use Rattle.settings.specs.Store.{plain};
 ghost use Rattle.compaction.specs.Compact.{compact};
 ghost use Rattle.abi.specs.Face.{returned, itself};
 
-use compaction::Size;
+use ride::TraceRefused;
 
 // The new length of the trace, compacted for a fresh ride with this gap (a store of one version; no
 // ride looks at its sync pair); -19 or -16.
@@ -18,8 +18,8 @@ pub fn atc2_compact(gap: u32, trace: &mut [u8]) -> i64
     let compacted = compaction::compact(ride::fresh(), store, trace);
     let size = compacted.size;
     match size {
-        Size::Bytes(bytes) => bytes as i64,
-        Size::Settings(_) => -19,
-        Size::Length => -16,
+        Ok(bytes) => bytes as i64,
+        Err(TraceRefused::Settings(_)) => -19,
+        Err(TraceRefused::Length) => -16,
     }
 }

@@ -1,13 +1,14 @@
 // Why a word, or three, are refused, as one number.
 ghost use Rattle.std.specs.Prelude.{◌≡◌, ◌<◌, ◌≤◌, pos};
+ghost use Rattle.words.specs.Answer.{refuses};
 ghost use Rattle.words.specs.Why.{are};
-ghost use Rattle.words.specs.Says.{says_short_read, says_long_read};
+ghost use Rattle.words.specs.Says.{says_read};
 ghost use Rattle.telegram.specs.Telegram.{telegram};
-ghost use Rattle.telegram.specs.Says.{says_telegram_read};
+ghost use Rattle.telegram.specs.Says.{says_bad, says_telegram_read};
 ghost use Rattle.abi.specs.Face.{letter_number, ones_number, why_number, word_read, word_number};
 
-use telegram::{TelegramRead, Word};
-use words::{LongRead, Parity, ShortRead};
+use telegram::{BadWord, Telegram, Word};
+use words::{NotCode, Parity};
 
 // The number of a word's letter.
 fn letter(word: Word) -> u32
@@ -31,14 +32,23 @@ fn ones(parity: Parity) -> u32
     }
 }
 
-// 0 for a telegram, else the number of the refusal + 16 * the bad word's letter + 256 * its parity.
-fn number(read: TelegramRead) -> u32
+// The number of the refusal + 16 * the bad word's letter + 256 * its parity.
+fn of_bad(bad: BadWord) -> u32
+    ensures { (result ≡ why_number (refuses (says_bad bad))) × (result < 1024) }
+{
+    match bad {
+        BadWord::NotCode(word, parity) => 1 + 16 * letter(word) + 256 * ones(parity),
+        BadWord::Fifteen(word) => 3 + 16 * letter(word),
+    }
+}
+
+// 0 for a telegram, else the number of its first bad word.
+fn number(read: Result<Telegram, BadWord>) -> u32
     ensures { (result ≡ why_number (says_telegram_read read)) × (result < 1024) }
 {
     match read {
-        TelegramRead::Is(_) => 0,
-        TelegramRead::NotCode(word, parity) => 1 + 16 * letter(word) + 256 * ones(parity),
-        TelegramRead::Fifteen(word) => 3 + 16 * letter(word),
+        Ok(_) => 0,
+        Err(bad) => of_bad(bad),
     }
 }
 
@@ -50,21 +60,21 @@ pub fn atc2_why_telegram(x: u8, y: u8, z: u8) -> i32
 }
 
 // 0 for a figure, else the number of the refusal + 256 * the word's parity.
-fn of_short(read: ShortRead) -> u32
-    ensures { (result ≡ word_number (says_short_read read)) × (result < 1024) }
+fn of_short(read: Result<u8, NotCode>) -> u32
+    ensures { (result ≡ word_number (says_read read)) × (result < 1024) }
 {
     match read {
-        ShortRead::Figure(_) => 0,
-        ShortRead::NotCode(parity) => 1 + 256 * ones(parity),
+        Ok(_) => 0,
+        Err(NotCode(parity)) => 1 + 256 * ones(parity),
     }
 }
 
-fn of_long(read: LongRead) -> u32
-    ensures { (result ≡ word_number (says_long_read read)) × (result < 1024) }
+fn of_long(read: Result<u16, NotCode>) -> u32
+    ensures { (result ≡ word_number (says_read read)) × (result < 1024) }
 {
     match read {
-        LongRead::Figure(_) => 0,
-        LongRead::NotCode(parity) => 1 + 256 * ones(parity),
+        Ok(_) => 0,
+        Err(NotCode(p)) => 1 + 256 * ones(p),
     }
 }
 

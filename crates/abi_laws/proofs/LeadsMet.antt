@@ -16,7 +16,7 @@ use Rattle.settings.specs.At.{held_from, held_at, asked, hold}
 use Rattle.contact.specs.History.{zeroes_of, zeroes, after, opens, closes}
 use Rattle.antenna.specs.declared.Stand.{Stand}
 use Rattle.antenna.specs.Hearing as antenna
-use Rattle.recording.specs.declared.Last.{Last}
+use Rattle.std.specs.Prelude.{Some}
 use Rattle.recording.specs.Frame.{line_of, odometer_of, accepted_after}
 use Rattle.recording.specs.Recording as recording
 use Rattle.recording.specs.Asking.{first_in, first_of, go_on, finish}
@@ -111,7 +111,7 @@ abbrev position : List ℕ
 position = 0 ∷ 0 ∷ 0 ∷ 5 ∷ 3 ∷ 0 ∷ 0 ∷ 0 ∷ []
 
 abbrev then : Hearing
-then = record { tape = record { ear = record { history = 65535; stand = Stand.Outside }; odometer = 5; opened = 0; last = Last.At 5 }; bit = 0 }
+then = record { tape = record { ear = record { history = 65535; stand = Stand.Outside }; odometer = 5; opened = 0; last = Some 5 }; bit = 0 }
 
 abbrev wrote : Written
 wrote = record { wrote = record { hearing = then; frames = 1; bytes = 8 }; buffer = position }

@@ -4,9 +4,9 @@
 use Prim.Native.Nat.{ℕ}
 use mathlib.Core.Path.{◌≡◌, refl, sym, ap, ◌∙◌}
 use mathlib.Core.List.{List, [], ◌∷◌}
+use Rattle.std.specs.Prelude.{Ok}
 use Rattle.words.specs.Answer.{gives}
 use Rattle.telegram.specs.declared.Telegram.{Telegram}
-use Rattle.telegram.specs.declared.Found.{Found}
 use Rattle.telegram.specs.Place.{at}
 use Rattle.telegram.specs.Place as place
 use Rattle.contact.specs.declared.Judged.{Judged}
@@ -24,7 +24,7 @@ use Rattle.abi_laws.specs.Sent.{SentFromC, Demand3FromC}
 use Rattle.abi_laws.proofs.Handed.{handed_out}
 
 -- A call that answers what is specified is one that the contract allows.
-found : (b : List ℕ) (start len s t p : ℕ) (m : Telegram) → place.find b start len s t ≡ gives (at p (gives m)) → Find b start len s t (Found.At p m)
+found : (b : List ℕ) (start len s t p : ℕ) (m : Telegram) → place.find b start len s t ≡ gives (at p (gives m)) → Find b start len s t (Ok (record { place = p; telegram = m }))
 found b start len s t p m e = (([], tt), lent b, (lent b, (start, (len, (s, (t, tt))))), refl, sym e)
 
 judged : (b : List ℕ) (start len s t : ℕ) (m : Telegram) (p n : ℕ) → contact.judge b start len s t ≡ gives (read (gives m) p n)

@@ -8,7 +8,7 @@
 mod report;
 
 use acceptance::Acceptance;
-use console::{Cards, OptionsWent, System};
+use console::{CallWrong, NoCards, System};
 use settings::Store;
 
 // One line of usage.
@@ -21,10 +21,10 @@ fn ride_over(rt: &impl System, store: Store, run: Acceptance, cards: usize) {
     let mut lengths = [0u64; 8192];
     let mut block = [0u8; 65536];
     match console::find_cards(rt, b"accept", cards, &mut lengths, &mut block) {
-        Cards::Whole => report::accept(rt, store, run, cards, &lengths, &mut block),
-        Cards::BadLength => console::refuse_trace(rt, b"accept"),
-        Cards::NoCard => usage(rt),
-        Cards::Said => {}
+        Ok(()) => report::accept(rt, store, run, cards, &lengths, &mut block),
+        Err(NoCards::BadLength) => console::refuse_trace(rt, b"accept"),
+        Err(NoCards::NoCard) => usage(rt),
+        Err(NoCards::Said) => {}
     }
 }
 
@@ -35,22 +35,18 @@ fn accept(rt: &impl System, store: Store, first: usize) {
         usage(rt);
         return;
     }
-    let asked = acceptance_console::plan_of(rt, b"accept", first);
-    let run = asked.run;
-    if asked.is_good {
+    if let Ok(run) = acceptance_console::plan_of(rt, b"accept", first) {
         ride_over(rt, store, run, cards);
     }
 }
 
 fn main(rt: HostRuntime) {
-    let asked = console::options(&rt, b"accept", false);
-    let store = asked.store;
-    let first = asked.first;
-    let how = asked.how;
-    match how {
-        OptionsWent::Plain => accept(&rt, store, first),
-        OptionsWent::Settings => accept(&rt, store, first),
-        OptionsWent::Usage => usage(&rt),
-        OptionsWent::Said => {}
+    match console::options(&rt, b"accept", false) {
+        Ok(asked) => {
+            let store = asked.store;
+            accept(&rt, store, asked.first);
+        }
+        Err(CallWrong::Usage) => usage(&rt),
+        Err(CallWrong::Said) => {}
     }
 }

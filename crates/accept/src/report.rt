@@ -1,15 +1,13 @@
 // The ride compared with its plan, with the lines of its groups, and the report: the entries of the
 // plan, then the verdict.
-use acceptance::{Acceptance, Reported};
+use acceptance::Acceptance;
 use console::System;
 use settings::Store;
 
 // The entries of the plan, as far as they can be written.
 fn put_entries(rt: &impl System, run: Acceptance) -> bool {
-    let mut i: usize = 0;
-    while i < 64 {
-        let reported = acceptance::report(run, i);
-        let Reported::Entry(entry) = reported else {
+    for i in 0..64usize {
+        let Some(entry) = acceptance::report(run, i) else {
             break;
         };
         let mut text = [0u8; 128];
@@ -17,7 +15,6 @@ fn put_entries(rt: &impl System, run: Acceptance) -> bool {
         if !put(rt, &text, count) {
             return false;
         }
-        i += 1;
     }
     true
 }

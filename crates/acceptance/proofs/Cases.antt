@@ -1,5 +1,6 @@
 -- The answers case by case, as the code comes to them.
 -- Assumes nothing.
+use Rattle.std.proofs.Common.{Some, None}
 use Prim.Native.Nat.{ℕ, ◌+◌, ◌-◌, ◌/◌, ◌%◌, ◌≤◌, ◌<◌}
 use native.Mathlib.Omega.{arith}
 use mathlib.Core.Path.{◌≡◌, refl, sym, ap, ap₂, ◌∙◌}
@@ -18,7 +19,6 @@ use Rattle.acceptance.specs.declared.Entry.{Entry}
 use Rattle.acceptance.specs.declared.Acceptance.{Acceptance}
 use Rattle.acceptance.specs.declared.Role.{Role}
 use Rattle.acceptance.specs.declared.Took.{Took}
-use Rattle.acceptance.specs.declared.Reported.{Reported}
 use Rattle.acceptance.specs.declared.Sums.{Sums}
 use Rattle.acceptance.specs.Plan.{all_good, well_formed, entries_of, apart, no_entry, plan_with}
 use Rattle.acceptance.specs.Taking.{planned, is_present, waiting, after_wanted, after_extra, take_group, no_part, take_line}
@@ -74,18 +74,18 @@ module _ (s : Acceptance) (n : ℕ) (size : n ≡ length (planned s)) (whole : t
 
   -- ---- the report
 
-  pub entry_reported : (i : ℕ) → i < n → Reported.Entry (get_or s.entries i no_entry) ≡ report s i
+  pub entry_reported : (i : ℕ) → i < n → Some (get_or s.entries i no_entry) ≡ report s i
   unfolding report
   entry_reported i h =
       let is : ltb i (length (planned s)) ≡ true = lt-ltb i (length (planned s)) (omega arith) in
-      ap Reported.Entry (sym (get_or-take n s.entries i no_entry h) ∙ ap (λ (l : List Entry). get_or l i no_entry) whole)
-      ∙ ap (λ (b : Bool). pick b (Reported.Entry (get_or (planned s) i no_entry)) Reported.NoEntry) (sym is)
+      ap Some (sym (get_or-take n s.entries i no_entry h) ∙ ap (λ (l : List Entry). get_or l i no_entry) whole)
+      ∙ ap (λ (b : Bool). pick b (Some (get_or (planned s) i no_entry)) None) (sym is)
 
-  pub none_reported : (i : ℕ) → n ≤ i → Reported.NoEntry ≡ report s i
+  pub none_reported : (i : ℕ) → n ≤ i → None ≡ report s i
   unfolding report
   none_reported i h =
       let is : ltb i (length (planned s)) ≡ false = le-ltb i (length (planned s)) (omega arith) in
-      ap (λ (b : Bool). pick b (Reported.Entry (get_or (planned s) i no_entry)) Reported.NoEntry) (sym is)
+      ap (λ (b : Bool). pick b (Some (get_or (planned s) i no_entry)) None) (sym is)
 
   pub sums_are : (met present : ℕ) → met ≡ met_in (take n s.entries) → present ≡ up_to_most (met + s.extra)
       → ◌≡◌ {A = Sums} (record { entries = n; met = met; absent = n - met; present = present; extra = s.extra }) (sum_up s)

@@ -1,5 +1,6 @@
 -- The records of a plan one by one: the bytes of one of them, and the entries that are filled in.
 -- Assumes nothing.
+use Rattle.std.proofs.Common.{None}
 use Prim.Native.Nat.{ℕ, suc, ◌+◌, ◌-◌, ◌*◌, ◌/◌, ◌≤◌, ◌<◌}
 use native.Mathlib.Omega.{arith}
 use mathlib.Core.Path.{◌≡◌, refl, sym, ap, ap₂, ◌∙◌}
@@ -13,7 +14,6 @@ use Rattle.ride.specs.Record.{byte}
 use Rattle.ride.specs.Over.{first_records}
 use Rattle.ride.proofs.Cutting.{records_length, more_records}
 use Rattle.acceptance.specs.declared.Entry.{Entry}
-use Rattle.acceptance.specs.declared.Met.{Met}
 use Rattle.acceptance.specs.Plan.{place_of, kind_of, is_good, all_good, entry_of, entries_of, no_entry}
 
 -- Byte k of the record from `at` on.
@@ -26,7 +26,7 @@ pub entry_is : (b : List ℕ) (at : ℕ) (kind : Kind) → kind ≡ kind_of (get
     (record {
       place = (get_or b at 0 * 256 + get_or b (at + 1) 0) * 65536 + (get_or b (at + 2) 0 * 256 + get_or b (at + 3) 0);
       kind = kind;
-      met = Met.Absent;
+      met = None;
     })
     (entry_of (take 8 (drop at b)))
 unfolding entry_of place_of
@@ -34,7 +34,7 @@ entry_is b at kind e =
     let first : get_or b (at + 0) 0 ≡ get_or b at 0 = ap (λ (i : ℕ). get_or b i 0) (add-zero at) in
     let bytes : place_of (take 8 (drop at b)) ≡ (get_or b at 0 * 256 + get_or b (at + 1) 0) * 65536 + (get_or b (at + 2) 0 * 256 + get_or b (at + 3) 0) =
     omega (arith, byte_at b at 0 (omega arith), byte_at b at 1 (omega arith), byte_at b at 2 (omega arith), byte_at b at 3 (omega arith)) in
-    ap₂ (λ (p : ℕ) (k : Kind). record { place = p; kind = k; met = Met.Absent }) (sym bytes) (e ∙ ap kind_of (sym (byte_at b at 4 (omega arith))))
+    ap₂ (λ (p : ℕ) (k : Kind). record { place = p; kind = k; met = None }) (sym bytes) (e ∙ ap kind_of (sym (byte_at b at 4 (omega arith))))
 
 -- The records from i on begin with record i.
 pub next_record : (b : List ℕ) (n i : ℕ) → i < n

@@ -1,11 +1,12 @@
 -- Going over the first n entries of a plan one by one: what a test at one of them says of those
 -- that are left.
 -- Assumes nothing.
+use Rattle.std.proofs.Common.{Option, Some, None, is_some}
 use Prim.Native.Nat.{ℕ, suc, ◌+◌, ◌-◌, ◌*◌, ◌≤◌, ◌<◌}
 use native.Mathlib.Omega.{arith}
 use native.Mathlib.Numerals.{add-one}
 use mathlib.Core.Path.{◌≡◌, refl, sym, ap, ◌∙◌}
-use mathlib.Core.Bool.{Bool, true, false, ◌&&◌}
+use mathlib.Core.Bool.{Bool, true, false, not, ◌&&◌}
 use mathlib.Core.List.{List, [], ◌∷◌}
 use lib.Dec.{leb, ltb}
 use lib.ListN.{length, take, drop, get_or, length-drop}
@@ -58,6 +59,15 @@ unfolding waiting
 wait_none tolerance place kind es n k = ap (waiting tolerance place kind) (none_left es n k)
 
 -- ---- the entries met
+
+pub not_twice : (b : Bool) → not (not b) ≡ b
+not_twice true = refl
+not_twice false = refl
+
+-- An entry is absent where nothing met it.
+pub absent_not : (m : Option ℕ) → is_absent m ≡ not (is_some m)
+absent_not None = refl
+absent_not (Some place) = refl
 
 module _ (es : List Entry) (n i : ℕ) (h : i < n) (k : n ≤ length es) where
   pub met_not : is_absent (get_or es i no_entry).met ≡ true → met_in (drop i (take n es)) ≡ met_in (drop (i + 1) (take n es))

@@ -3,12 +3,11 @@
 -- "Plan records are of one fixed size, no header: 8 bytes, place in 0 to 3 high byte first, kind in
 -- 4 (0 signal, 1 warning, 2 annulled, 3 line, 4 route), 5 to 7 zero."
 -- Assumes nothing.
-use Rattle.std.specs.Prelude.{ℕ, ◌+◌, ◌-◌, ◌*◌, ◌/◌, ◌%◌, Bool, true, ◌&&◌, List, [], ◌∷◌, ◌++◌, map, eqb, leb, ltb, length, take, replicate}
+use Rattle.std.specs.Prelude.{ℕ, ◌+◌, ◌-◌, ◌*◌, ◌/◌, ◌%◌, Bool, true, ◌&&◌, List, [], ◌∷◌, ◌++◌, map, eqb, leb, ltb, length, replicate, None}
 use Rattle.words.specs.Answer.{Outcome, gives, refuses, pick}
 use Rattle.group_rows.specs.declared.Kind.{Kind}
 use Rattle.ride.specs.Record.{byte, blank}
 use Rattle.ride.specs.Over.{records}
-use Rattle.acceptance.specs.declared.Met.{Met}
 use Rattle.acceptance.specs.declared.Entry.{Entry}
 use Rattle.acceptance.specs.declared.Acceptance.{Acceptance}
 
@@ -40,7 +39,7 @@ all_good (r ∷ rs) = is_good r && all_good rs
 
 -- The entry of a record; no group has met it.
 unfoldable pub entry_of : List ℕ → Entry
-entry_of r = record { place = place_of r; kind = kind_of (byte r 4); met = Met.Absent }
+entry_of r = record { place = place_of r; kind = kind_of (byte r 4); met = None }
 
 -- The entries of a plan's bytes.
 abbrev pub entries_of : List ℕ → List Entry
@@ -58,7 +57,7 @@ apart tolerance (e ∷ es) = is_beyond tolerance e.place es && apart tolerance e
 
 -- A place of a plan that no entry has taken.
 abbrev pub no_entry : Entry
-no_entry = record { place = 0; kind = Kind.Signal; met = Met.Absent }
+no_entry = record { place = 0; kind = Kind.Signal; met = None }
 
 -- A run that has not begun, over so many entries: none is met, and no group was extra.
 unfoldable pub plan_with : ℕ → List Entry → Acceptance

@@ -1,19 +1,18 @@
 -- The report of a run (document 02, M-113): "Report each entry as met or absent", and the sums.
 -- Assumes nothing.
-use Rattle.std.specs.Prelude.{ℕ, suc, ◌+◌, ◌-◌, List, [], ◌∷◌, leb, ltb, length, get_or}
+use Rattle.std.specs.Prelude.{ℕ, suc, ◌+◌, ◌-◌, List, [], ◌∷◌, leb, ltb, length, get_or, Option, Some, None}
 use Rattle.words.specs.Answer.{pick}
 use Rattle.words.specs.Limits.{largest64}
 use Rattle.acceptance.specs.declared.Entry.{Entry}
 use Rattle.acceptance.specs.declared.Acceptance.{Acceptance}
-use Rattle.acceptance.specs.declared.Reported.{Reported}
 use Rattle.acceptance.specs.declared.Sums.{Sums}
 use Rattle.acceptance.specs.Plan.{no_entry}
 use Rattle.acceptance.specs.Taking.{planned, is_absent}
 
 -- The entry with this index, the first has 0: its place and kind, and that it is absent or the
 -- place of the group that met it; or that there is no such entry.
-unfoldable pub report : Acceptance → ℕ → Reported
-report s i = pick (ltb i (length (planned s))) (Reported.Entry (get_or (planned s) i no_entry)) Reported.NoEntry
+unfoldable pub report : Acceptance → ℕ → Option Entry
+report s i = pick (ltb i (length (planned s))) (Some (get_or (planned s) i no_entry)) None
 
 -- How many entries are met.
 unfoldable pub met_in : List Entry → ℕ

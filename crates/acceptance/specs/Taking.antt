@@ -4,13 +4,12 @@
 -- come, so no list of them is kept. A place exactly at the tolerance is within it." "Opposite and
 -- refused groups take no part."
 -- Assumes nothing.
-use Rattle.std.specs.Prelude.{ℕ, suc, ◌+◌, Bool, true, false, ◌&&◌, List, [], ◌∷◌, eqb, leb, ltb, length, take, get_or, set}
+use Rattle.std.specs.Prelude.{ℕ, suc, ◌+◌, Bool, true, false, ◌&&◌, List, [], ◌∷◌, eqb, leb, ltb, length, take, get_or, set, Option, Some, None}
 use Rattle.words.specs.Answer.{pick}
 use Rattle.words.specs.Limits.{largest64}
 use Rattle.group_rows.specs.declared.Direction.{Direction}
 use Rattle.group_rows.specs.declared.Kind.{Kind}
 use Rattle.ride.specs.declared.Line.{Line}
-use Rattle.acceptance.specs.declared.Met.{Met}
 use Rattle.acceptance.specs.declared.Entry.{Entry}
 use Rattle.acceptance.specs.declared.Acceptance.{Acceptance}
 use Rattle.acceptance.specs.declared.Role.{Role}
@@ -27,9 +26,9 @@ is_present Direction.Present = true
 is_present Direction.Opposite = false
 
 -- Whether an entry is still absent.
-abbrev pub is_absent : Met → Bool
-is_absent Met.Absent = true
-is_absent (Met.At place) = false
+abbrev pub is_absent : Option ℕ → Bool
+is_absent None = true
+is_absent (Some place) = false
 
 -- Whether two places lie within the tolerance: "A place exactly at the tolerance is within it."
 abbrev pub within : ℕ → ℕ → ℕ → Bool
@@ -50,7 +49,7 @@ waiting tolerance place kind (e ∷ es) = pick (waits tolerance place kind e) 0 
 
 -- An entry that a group at this place met.
 abbrev pub met_at : ℕ → Entry → Entry
-met_at place e = record { place = e.place; kind = e.kind; met = Met.At place }
+met_at place e = record { place = e.place; kind = e.kind; met = Some place }
 
 -- One more; the largest number of 64 bits stands for that many or more.
 abbrev pub one_more : ℕ → ℕ

@@ -21,19 +21,12 @@ use group_rows::Kind;
 use ride::Line;
 pub use taking::one_more;
 
-// Whether an entry was met: not, or by a group with this A place.
-#[derive(Clone, Copy)]
-pub enum Met {
-    Absent,
-    At(u64),
-}
-
-// An entry of a plan.
+// An entry of a plan; the A place of the group that met it, once one did.
 #[derive(Clone, Copy)]
 pub struct Entry {
     pub place: u32,
     pub kind: Kind,
-    pub met: Met,
+    pub met: Option<u64>,
 }
 
 // A run: the plan's entries, of which there are `count`, with what met them; the tolerance; how
@@ -46,11 +39,10 @@ pub struct Acceptance {
     pub extra: u64,
 }
 
-// How a plan was judged: good, or refused for the tolerance (28), for a record, the length or the
-// count (26), or for entries out of order or too near (27).
-#[derive(Clone, Copy)]
-pub enum PlanJudged {
-    Good,
+// Why a plan is refused: for the tolerance (28), for a record, the length or the count (26), or for
+// entries out of order or too near (27).
+#[derive(Clone, Copy, PartialEq, Eq)]
+pub enum PlanRefused {
     Tolerance,
     Record,
     Near,
@@ -58,10 +50,11 @@ pub enum PlanJudged {
 
 // What reading a plan answers: a run over it that has not begun, and how it was judged; a refused
 // one is the empty plan.
+// Stays as it is: PlansUntouched of demands says that the plan beside a refusal is the empty one.
 #[derive(Clone, Copy)]
 pub struct Planned {
     pub plan: Acceptance,
-    pub judged: PlanJudged,
+    pub judged: Result<(), PlanRefused>,
 }
 
 // What part a line takes: the group met the entry with this index, it is extra, or the line takes
@@ -80,13 +73,6 @@ pub struct Took {
     pub answer: Role,
 }
 
-// What the report says of an index: the entry, met or absent, or that there is none.
-#[derive(Clone, Copy)]
-pub enum Reported {
-    Entry(Entry),
-    NoEntry,
-}
-
 // The sums of a run. As many groups are wanted as entries are met.
 #[derive(Clone, Copy)]
 pub struct Sums {
@@ -103,19 +89,19 @@ pub fn plan(bytes: &[u8], tolerance: u32) -> Planned
     ensures { says_planned result ≡ plan bytes.now tolerance }
 {
     if tolerance > 500 {
-        return reading::refused(PlanJudged::Tolerance);
+        return reading::refused(PlanRefused::Tolerance);
     }
     if !reading::well_formed(bytes) {
-        return reading::refused(PlanJudged::Record);
+        return reading::refused(PlanRefused::Record);
     }
     let entries = reading::entries(bytes);
     let count = bytes.len() / 8;
     if !reading::apart(entries, count, tolerance) {
-        return reading::refused(PlanJudged::Near);
+        return reading::refused(PlanRefused::Near);
     }
     Planned {
         plan: reading::begun(entries, count, tolerance),
-        judged: PlanJudged::Good,
+        judged: Ok(()),
     }
 }
 
@@ -144,14 +130,14 @@ pub fn take(run: Acceptance, line: Line) -> Took
 
 // The entry with this index, the first has 0, absent or with the place of the group that met it; or
 // that there is none.
-pub fn report(run: Acceptance, i: usize) -> Reported
+pub fn report(run: Acceptance, i: usize) -> Option<Entry>
     ensures { result ≡ report run i }
 {
     let entries = run.entries;
     if i < taking::entries_in(entries, run.count) {
-        return Reported::Entry(entries[i]);
+        return Some(entries[i]);
     }
-    Reported::NoEntry
+    None
 }
 
 // How many entries there are, are met and are absent; how many present groups there were, and were

@@ -3,14 +3,14 @@ ghost use Rattle.std.specs.Prelude.{◌≡◌, ◌+◌, ◌-◌, ◌*◌, ◌/�
 ghost use Rattle.ride.specs.Over.{records};
 ghost use Rattle.acceptance.specs.Plan.{kind_of, is_good, all_good, well_formed, entry_of, entries_of, apart, no_entry, empty_plan};
 
-use crate::{Acceptance, Entry, Met, PlanJudged, Planned};
+use crate::{Acceptance, Entry, PlanRefused, Planned};
 use group_rows::Kind;
 
 // A place of a plan that no entry has taken.
 const NO_ENTRY: Entry = Entry {
     place: 0,
     kind: Kind::Signal,
-    met: Met::Absent,
+    met: None,
 };
 
 // Room for the entries of a plan.
@@ -36,12 +36,12 @@ pub fn begun(entries: [Entry; 64], count: usize, tolerance: u32) -> Acceptance
 }
 
 // A refused plan: the empty one.
-pub fn refused(judged: PlanJudged) -> Planned
-    ensures { result ≡ record { plan = empty_plan; judged = judged } }
+pub fn refused(why: PlanRefused) -> Planned
+    ensures { result ≡ record { plan = empty_plan; judged = Err why } }
 {
     Planned {
         plan: begun(no_entries(), 0, 0),
-        judged,
+        judged: Err(why),
     }
 }
 
@@ -76,7 +76,7 @@ fn entry_at(bytes: &[u8], at: usize) -> Entry
     Entry {
         place: high * 65536 + low,
         kind: kind_of(bytes[at + 4]),
-        met: Met::Absent,
+        met: None,
     }
 }
 
@@ -85,12 +85,10 @@ fn all_good(bytes: &[u8]) -> bool
     ensures { result ≡ all_good (records bytes.now) }
 {
     let count = bytes.len() / 8;
-    let mut i = 0;
-    while i < count {
+    for i in 0..count {
         if !is_good(bytes, i * 8) {
             return false;
         }
-        i += 1;
     }
     true
 }
@@ -115,10 +113,8 @@ pub fn entries(bytes: &[u8]) -> [Entry; 64]
 {
     let count = bytes.len() / 8;
     let mut entries = no_entries();
-    let mut i = 0;
-    while i < count {
+    for i in 0..count {
         entries[i] = entry_at(bytes, i * 8);
-        i += 1;
     }
     entries
 }
@@ -128,14 +124,12 @@ pub fn apart(entries: [Entry; 64], n: usize, tolerance: u32) -> bool
     requires { n ≤ 64 }
     ensures { result ≡ apart tolerance (take n entries) }
 {
-    let mut i = 1;
-    while i < n {
+    for i in 1..n {
         let one = entries[i - 1];
         let next = entries[i];
         if next.place as u64 <= one.place as u64 + 2 * tolerance as u64 {
             return false;
         }
-        i += 1;
     }
     true
 }

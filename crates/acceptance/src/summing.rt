@@ -3,7 +3,6 @@ ghost use Rattle.std.specs.Prelude.{◌≡◌, ◌+◌, ◌≤◌, take};
 ghost use Rattle.acceptance.specs.Report.{met_in, up_to_most};
 
 use crate::Entry;
-use crate::taking::is_absent;
 
 // How many of the first n entries are met.
 pub fn met(entries: [Entry; 64], n: usize) -> usize
@@ -12,12 +11,8 @@ pub fn met(entries: [Entry; 64], n: usize) -> usize
     ensures upper_bound { result ≤ n }
 {
     let mut count = 0;
-    let mut i = n;
-    while i > 0 {
-        i -= 1;
-        let entry = entries[i];
-        let met = entry.met;
-        if !is_absent(met) {
+    for i in (0..n).rev() {
+        if entries[i].met.is_some() {
             count += 1;
         }
     }

@@ -1,9 +1,9 @@
 // A present group, and the entries that wait for it.
 ghost use Rattle.std.specs.Prelude.{◌≡◌, ◌-◌, ◌≤◌, ◌<◌, length, take};
 ghost use Rattle.acceptance.specs.Plan.{number_of};
-ghost use Rattle.acceptance.specs.Taking.{is_present, is_absent, within, waits, waiting, one_more, after_wanted, after_extra, take_group, no_part};
+ghost use Rattle.acceptance.specs.Taking.{is_present, within, waits, waiting, one_more, after_wanted, after_extra, take_group, no_part};
 
-use crate::{Acceptance, Entry, Met, Role, Took};
+use crate::{Acceptance, Entry, Role, Took};
 use group_rows::{Direction, Kind};
 
 // How many entries a plan with this count has: at most 64.
@@ -38,16 +38,6 @@ fn number_of(kind: Kind) -> u8
     }
 }
 
-// Whether an entry is still absent.
-pub fn is_absent(met: Met) -> bool
-    ensures { result ≡ is_absent met }
-{
-    match met {
-        Met::Absent => true,
-        Met::At(_) => false,
-    }
-}
-
 // The place less the tolerance, or 0.
 fn less(place: u32, tolerance: u32) -> u32
     ensures { result ≡ place - tolerance }
@@ -69,9 +59,9 @@ fn within(tolerance: u32, entry: u32, place: u64) -> bool
 fn waits(tolerance: u32, place: u64, kind: Kind, entry: Entry) -> bool
     ensures { result ≡ waits tolerance place kind entry }
 {
-    let met = entry.met;
     let own = entry.kind;
-    is_absent(met) & ((number_of(own) == number_of(kind)) & within(tolerance, entry.place, place))
+    entry.met.is_none()
+        & ((number_of(own) == number_of(kind)) & within(tolerance, entry.place, place))
 }
 
 // The index of the first of n entries that waits for the group; n if none does.
@@ -79,13 +69,11 @@ fn waiting(tolerance: u32, place: u64, kind: Kind, entries: [Entry; 64], n: usiz
     requires { n ≤ 64 }
     ensures { result ≡ waiting tolerance place kind (take n entries) }
 {
-    let mut i = 0;
-    while i < n {
+    for i in 0..n {
         let entry = entries[i];
         if waits(tolerance, place, kind, entry) {
             return i;
         }
-        i += 1;
     }
     n
 }
@@ -101,7 +89,7 @@ fn after_wanted(run: Acceptance, i: usize, place: u64) -> Acceptance
     entries[i] = Entry {
         place: entry.place,
         kind,
-        met: Met::At(place),
+        met: Some(place),
     };
     Acceptance {
         entries,

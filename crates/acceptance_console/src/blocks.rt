@@ -4,11 +4,12 @@ ghost use Rattle.std.specs.Prelude.{◌≡◌};
 ghost use Rattle.acceptance_console.specs.SetOut.{set_out};
 
 use acceptance::Acceptance;
-use acceptance_text::{Ending, Going, Progress, Troubles};
-use console::{Goes, System};
+use acceptance_text::{Going, Troubles};
+use console::System;
 use settings::Store;
 
 // A ride compared with a plan so far, and whether that is whole: all reads and writes succeeded.
+// Stays as it is: what may not change (set_out, whose definition says `whole`).
 #[derive(Clone, Copy)]
 pub struct Compared {
     pub going: Going,
@@ -55,20 +56,16 @@ fn take_records(
     let answer = acceptance_text::accept(before, store, records, out);
     let going = answer.going;
     let progress = answer.progress;
-    let Progress::Took {
-        records: count,
-        bytes,
-    } = progress
-    else {
+    let Ok(took) = progress else {
         return Compared {
             going,
             whole: false,
         };
     };
-    let put = put_listed(rt, program, lists, out, bytes);
+    let put = put_listed(rt, program, lists, out, took.bytes);
     Compared {
         going,
-        whole: put & (count == records.len() / 8),
+        whole: put & (took.records == records.len() / 8),
     }
 }
 
@@ -80,33 +77,19 @@ fn finish(rt: &impl System, program: &[u8], lists: bool, from: Compared) -> Comp
     let going = finished.going;
     let ending = finished.ending;
     match ending {
-        Ending::Wrote(bytes) => Compared {
+        Ok(bytes) => Compared {
             going,
             whole: put_listed(rt, program, lists, &text, bytes),
         },
-        Ending::NoRoom => Compared {
+        Err(_) => Compared {
             going,
             whole: false,
         },
     }
 }
 
-// What comes after the last block: the end of the ride where all cards were read, and a word of
-// what went wrong otherwise.
-fn ended(rt: &impl System, program: &[u8], lists: bool, how: Goes, from: Compared) -> Compared {
-    let Goes::End = how else {
-        console::say_goes(rt, program, how);
-        let going = from.going;
-        return Compared {
-            going,
-            whole: false,
-        };
-    };
-    finish(rt, program, lists, from)
-}
-
-// The records of all cards, whose lengths were kept, as one ride. A proved loop has to end, and
-// nothing says that a file does: so it counts its turns down from a number that no run uses up.
+// The records of all cards, whose lengths were kept, as one ride, and its end; or a word of what
+// went wrong.
 fn over(
     rt: &impl System,
     program: &[u8],
@@ -119,23 +102,21 @@ fn over(
     out: &mut [u8],
 ) -> Compared {
     let mut stand = set_out(run);
-    let mut pass = console::begin(first);
-    let mut turns = u64::MAX;
-    while turns > 0 {
-        let got = console::next_block(rt, pass, lengths, block);
-        let read = got.read;
-        stand = take_records(rt, program, lists, stand, store, &block[..read], out);
-        if !stand.whole {
-            return stand;
+    let went = console::over_cards(rt, first, lengths, block, |records| {
+        stand = take_records(rt, program, lists, stand, store, records, out);
+        stand.whole
+    });
+    match went {
+        Ok(()) => finish(rt, program, lists, stand),
+        Err(failed) => {
+            console::say_goes(rt, program, Err(failed));
+            let going = stand.going;
+            Compared {
+                going,
+                whole: false,
+            }
         }
-        let how = got.how;
-        let Goes::More = how else {
-            return ended(rt, program, lists, how, stand);
-        };
-        pass = got.pass;
-        turns -= 1;
     }
-    ended(rt, program, lists, Goes::More, stand)
 }
 
 // The ride over the cards from this argument on, whose lengths were kept, compared with a plan.

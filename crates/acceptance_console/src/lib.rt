@@ -2,8 +2,8 @@
 // reads, writes or asks for an argument takes the system first, `rt: &impl System`, which is left
 // out below.
 // 1. `plan_of(program, file)` reads the plan that argument `file` names, with the tolerance of the
-//    argument after it, and answers a `PlanAsked`: a run over the plan that has not begun; or that
-//    there is none, which was said and told: `plan refused 26: WORDS` on standard output, else
+//    argument after it, and answers a run over the plan that has not begun; or `Said`: there is
+//    none, which was said and told: `plan refused 26: WORDS` on standard output, else
 //    `PROGRAM: TOLERANCE is no figure: ARGUMENT`, `PROGRAM: cannot open FILE` or
 //    `PROGRAM: cannot read FILE`.
 // 2. `set_out(run)` is before the first record of the ride. `compare(program, lists, run, store,
@@ -24,5 +24,5 @@ mod plans;
 mod verdict;
 
 pub use blocks::{Compared, compare, set_out};
-pub use plans::{PlanAsked, plan_of};
+pub use plans::plan_of;
 pub use verdict::put_verdict;

@@ -1,27 +1,9 @@
 // The plan and the tolerance that the arguments name.
-use acceptance::{Acceptance, PlanJudged};
-use console::{FigureAsked, Source, System};
+use acceptance::{Acceptance, PlanRefused};
+use console::{Said, Source, System};
 
 // The largest number that a tolerance is read as, which stands for all above it; no plan has it.
 const MOST: u64 = 4294967295;
-
-// A run over a plan that has not begun, and whether there is one: a run over the empty plan where
-// it was said that there is none.
-#[derive(Clone, Copy)]
-pub struct PlanAsked {
-    pub run: Acceptance,
-    pub is_good: bool,
-}
-
-// No plan.
-fn none() -> PlanAsked {
-    let empty = acceptance::plan(b"", 0);
-    let run = empty.plan;
-    PlanAsked {
-        run,
-        is_good: false,
-    }
-}
 
 // That the plan is refused.
 fn refuse(rt: &impl System, program: &[u8], number: u8) {
@@ -31,60 +13,51 @@ fn refuse(rt: &impl System, program: &[u8], number: u8) {
 }
 
 // Whether a plan is good; where it is refused that is said.
-fn is_taken(rt: &impl System, program: &[u8], judged: PlanJudged) -> bool {
+fn is_taken(rt: &impl System, program: &[u8], judged: Result<(), PlanRefused>) -> bool {
     match judged {
-        PlanJudged::Good => {
+        Ok(()) => {
             return true;
         }
-        PlanJudged::Tolerance => refuse(rt, program, 28),
-        PlanJudged::Record => refuse(rt, program, 26),
-        PlanJudged::Near => refuse(rt, program, 27),
+        Err(PlanRefused::Tolerance) => refuse(rt, program, 28),
+        Err(PlanRefused::Record) => refuse(rt, program, 26),
+        Err(PlanRefused::Near) => refuse(rt, program, 27),
     }
     false
 }
 
-// The plan of the open file of an argument, with this tolerance. A plan has 512 bytes at most; a
-// longer file shows by one byte more.
+// A run over the plan of the open file of an argument, with this tolerance. A plan has 512 bytes at
+// most; a longer file shows by one byte more.
 fn read(
     rt: &impl System,
     program: &[u8],
     file: usize,
     from: &mut Source,
     tolerance: u32,
-) -> PlanAsked {
+) -> Result<Acceptance, Said> {
     let mut bytes = [0u8; 513];
     let got = console::fill(rt, from, &mut bytes);
     if got.failed {
         console::cannot_read(rt, program, file);
-        return none();
+        return Err(Said);
     }
     let count = got.count;
     let planned = acceptance::plan(&bytes[..count], tolerance);
     let run = planned.plan;
     let judged = planned.judged;
-    PlanAsked {
-        run,
-        is_good: is_taken(rt, program, judged),
+    if is_taken(rt, program, judged) {
+        return Ok(run);
     }
+    Err(Said)
 }
 
-// A tolerance of four bytes.
-fn in_dm(n: u64) -> u32 {
-    if n > MOST {
-        return u32::MAX;
-    }
-    n as u32
-}
-
-// The plan that the argument `file` names, with the tolerance of the one after it.
-pub fn plan_of(rt: &impl System, program: &[u8], file: usize) -> PlanAsked {
+// A run over the plan that the argument `file` names, with the tolerance of the one after it.
+pub fn plan_of(rt: &impl System, program: &[u8], file: usize) -> Result<Acceptance, Said> {
     let next = std::num::wrapping_add_usize(file, 1);
-    let FigureAsked::Is(n) = console::figure(rt, program, b"TOLERANCE", next, MOST) else {
-        return none();
-    };
+    let n = console::figure(rt, program, b"TOLERANCE", next, MOST)?;
     let Some(mut opened) = console::open_card(rt, file) else {
         console::cannot_open(rt, program, file);
-        return none();
+        return Err(Said);
     };
-    read(rt, program, file, &mut opened, in_dm(n))
+    let tolerance = u32::try_from(n).unwrap_or(u32::MAX);
+    read(rt, program, file, &mut opened, tolerance)
 }

@@ -1,5 +1,6 @@
 -- What is promised of an acceptance run holds of every run that the contracts allow.
 -- Assumes nothing.
+use Rattle.std.proofs.Common.{Option, None, Some}
 use Prim.Native.Nat.{ℕ, ◌+◌, ◌-◌, ◌≤◌, ◌<◌, ◌^◌}
 use native.Mathlib.Omega.{arith}
 use mathlib.Core.Path.{◌≡◌, refl, sym, ap, ap₂, ◌∙◌}
@@ -13,12 +14,10 @@ use Rattle.words.proofs.Never.{cannot_be}
 use Rattle.words.specs.Limits.{largest64}
 use Rattle.ride.specs.declared.Line.{Line}
 use Rattle.ride.specs.Over.{records}
-use Rattle.acceptance.specs.declared.Met.{Met}
 use Rattle.acceptance.specs.declared.Entry.{Entry}
 use Rattle.acceptance.specs.declared.Acceptance.{Acceptance}
 use Rattle.acceptance.specs.declared.Role.{Role}
 use Rattle.acceptance.specs.declared.Took.{Took}
-use Rattle.acceptance.specs.declared.Reported.{Reported}
 use Rattle.acceptance.specs.declared.Sums.{Sums}
 use Rattle.acceptance.specs.Plan.{entries_of, no_entry, apart, plan_with, plan}
 use Rattle.acceptance.specs.Taking.{planned, is_for, no_part, take_line}
@@ -61,7 +60,7 @@ module _ (r : Run) where
   entry_is : (i : ℕ) → get_or (planned s) i no_entry ≡ entry r i
   entry_is i = ap (λ (es : List Entry). get_or es i no_entry) entries_are
 
-  fresh : (i : ℕ) → (get_or (planned s) i no_entry).met ≡ Met.Absent
+  fresh : (i : ℕ) → (get_or (planned s) i no_entry).met ≡ None
   fresh i = ap (λ (e : Entry). e.met) (entry_is i) ∙ unmet (records r.bytes) i
 
   none_yet : met_in (planned s) ≡ 0
@@ -87,17 +86,17 @@ module _ (r : Run) where
   some_is : (i : ℕ) (ls : List Line) → some_for s.tolerance (get_or (planned s) i no_entry) ls ≡ some_for r.tolerance (entry r i) ls
   some_is i ls = ap₂ (λ (t : ℕ) (e : Entry). some_for t e ls) tolerance_is (entry_is i)
 
-  each_entry : (i : ℕ) (x : Reported) → i < entries r → Reports (ended r) i x
-      → x ≡ Reported.Entry (record { place = (entry r i).place; kind = (entry r i).kind; met = first_for r.tolerance (entry r i) r.lines })
+  each_entry : (i : ℕ) (x : Option Entry) → i < entries r → Reports (ended r) i x
+      → x ≡ Some (record { place = (entry r i).place; kind = (entry r i).kind; met = first_for r.tolerance (entry r i) r.lines })
   each_entry i x h p =
       let in_plan : i < length (planned s) = omega (arith, size) in
       p.1 ∙ ap (λ (e : Acceptance). report e i) over ∙ reported (run_over s r.lines) i (omega (arith, size_after))
-      ∙ ap Reported.Entry
+      ∙ ap Some
       (entry_after s r.lines apart_is i in_plan
-      ∙ ap (λ (m : Met). with (get_or (planned s) i no_entry) (met_all (first_for s.tolerance (get_or (planned s) i no_entry) r.lines) m)) (fresh i)
+      ∙ ap (λ (m : Option ℕ). with (get_or (planned s) i no_entry) (met_all (first_for s.tolerance (get_or (planned s) i no_entry) r.lines) m)) (fresh i)
       ∙ ap₂ (λ (t : ℕ) (e : Entry). with e (first_for t e r.lines)) tolerance_is (entry_is i))
 
-  no_other : (i : ℕ) (x : Reported) → entries r ≤ i → Reports (ended r) i x → x ≡ Reported.NoEntry
+  no_other : (i : ℕ) (x : Option Entry) → entries r ≤ i → Reports (ended r) i x → x ≡ None
   no_other i x h p = p.1 ∙ ap (λ (e : Acceptance). report e i) over ∙ not_reported (run_over s r.lines) i (omega (arith, size_after))
 
   in_sums : (x : Sums) → SumsUp (ended r) x → x ≡ sum_up (run_over s r.lines)

@@ -17,7 +17,7 @@ use Rattle.ride.specs.Over.{records, Ridden, ride_over}
 use Rattle.ride.proofs.Cutting.{records_length}
 use Rattle.ride.proofs.Sections.{ride_on, unnumbered}
 use Rattle.acceptance_text.specs.declared.Going.{Going}
-use Rattle.acceptance_text.specs.declared.Progress.{Progress}
+use Rattle.std.specs.Prelude.{Ok}
 use Rattle.acceptance_text.specs.declared.Advanced.{Advanced}
 use Rattle.acceptance_text.specs.Taking.{Taking, take_all}
 use Rattle.acceptance_text.specs.Accept.{began, Advance, accept_of, accept}
@@ -71,7 +71,7 @@ module _ (going : Going) (store : Store) (block before : List ℕ) (r : Advanced
       accepted_is going store block before r after call
       ∙ sym (accept_taken_law going store block before good (eq-eqb (length block % 8) 0 (eights block whole)))
 
-  pub progress_is : r.progress ≡ Progress.Took many (length took.text)
+  pub progress_is : r.progress ≡ Ok (record { records = many; bytes = length took.text })
   unfolding accept_of
   progress_is = sym (progress_back r.progress) ∙ ap (λ (a : Advance). progress_of a.answer) is
 

@@ -1,5 +1,6 @@
 -- A line taken: what it can come to, and what the plan is after it.
 -- Assumes nothing.
+use Rattle.std.proofs.Common.{Option, Some, None}
 use Prim.Native.Nat.{ℕ, ◌≤◌, ◌<◌}
 use native.Mathlib.Omega.{arith}
 use mathlib.Core.Path.{◌≡◌, refl, sym, ap, ap₂, ◌∙◌}
@@ -11,7 +12,6 @@ use lib.Seq.{take-set-lt, get_or-take}
 use borrow.Author.Tests.{ltb-true, ltb-false}
 use Rattle.words.specs.Answer.{pick}
 use Rattle.ride.specs.declared.Line.{Line}
-use Rattle.acceptance.specs.declared.Met.{Met}
 use Rattle.acceptance.specs.declared.Entry.{Entry}
 use Rattle.acceptance.specs.declared.Acceptance.{Acceptance}
 use Rattle.acceptance.specs.declared.Role.{Role}
@@ -82,9 +82,9 @@ map_stays : (f : Entry → Entry) → ((e : Entry) → f e ≡ e) → (es : List
 map_stays f h [] = refl
 map_stays f h (e ∷ es) = ap₂ (λ (x : Entry) (xs : List Entry). x ∷ xs) (h e) (map_stays f h es)
 
-not_met : (place : ℕ) (m : Met) → met_once false place m ≡ m
-not_met place Met.Absent = refl
-not_met place (Met.At q) = refl
+not_met : (place : ℕ) (m : Option ℕ) → met_once false place m ≡ m
+not_met place None = refl
+not_met place (Some q) = refl
 
 -- A line that is no present group leaves every entry; one that is meets those that it is for.
 pub others_stay : (tolerance : ℕ) (l : Line) (es : List Entry) → is_group l ≡ false → map (after_line tolerance l) es ≡ es

@@ -1,5 +1,6 @@
 -- The depot's run: the promise, a run that is one, and two entries too near.
 -- Assumes nothing.
+use Rattle.std.proofs.Common.{Ok}
 use Prim.Native.Nat.{ℕ}
 use mathlib.Core.Path.{◌≡◌, refl}
 use mathlib.Core.List.{List, [], ◌∷◌}
@@ -8,7 +9,6 @@ use Rattle.group_rows.specs.declared.Kind.{Kind}
 use Rattle.ride.specs.declared.Line.{Line}
 use Rattle.ride.specs.Over.{first_records}
 use Rattle.acceptance.specs.declared.Acceptance.{Acceptance}
-use Rattle.acceptance.specs.declared.PlanJudged.{PlanJudged}
 use Rattle.acceptance.specs.declared.Planned.{Planned}
 use Rattle.acceptance.specs.declared.Role.{Role}
 use Rattle.acceptance.specs.Plan.{place_of, kind_of, is_good, all_good, entry_of, entries_of, apart, plan_with, well_formed, plan}
@@ -36,13 +36,13 @@ start : Acceptance
 start = plan_with 5 (entries_of bytes)
 
 read : Planned
-read = record { plan = start; judged = PlanJudged.Good }
+read = record { plan = start; judged = Ok tt }
 
 is_plan : Plans bytes 5 read
 unfolding plan well_formed all_good is_good apart entry_of place_of kind_of first_records plan_with bytes lent start read
 is_plan = (([], tt), lent, (lent, (5, tt)), refl, refl)
 
-is_good_law : read.judged ≡ PlanJudged.Good
+is_good_law : read.judged ≡ Ok tt
 unfolding read
 is_good_law = refl
 

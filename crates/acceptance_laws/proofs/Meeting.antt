@@ -1,6 +1,7 @@
 -- A group meets the first entry that waits for it: where the entries lie apart, that is every entry
 -- that it is for and none met before.
 -- Assumes nothing.
+use Rattle.std.proofs.Common.{Option, Some, None}
 use Prim.Native.Nat.{ℕ, zero, suc, ◌+◌, ◌≤◌, ◌<◌}
 use native.Mathlib.Omega.{arith}
 use mathlib.Core.Path.{◌≡◌, refl, sym, ap, ap₂, ◌∙◌}
@@ -9,7 +10,6 @@ use mathlib.Core.List.{List, [], ◌∷◌, map}
 use lib.ListN.{length, get_or, set}
 use Rattle.words.specs.Answer.{pick}
 use Rattle.group_rows.specs.declared.Kind.{Kind}
-use Rattle.acceptance.specs.declared.Met.{Met}
 use Rattle.acceptance.specs.declared.Entry.{Entry}
 use Rattle.acceptance.specs.Plan.{no_entry, apart}
 use Rattle.acceptance.specs.Taking.{is_absent, is_for, waits, waiting, met_at}
@@ -18,24 +18,24 @@ use Rattle.acceptance_laws.proofs.Near.{and_left, and_right, and_false, Follow, 
 use Rattle.words.proofs.Never.{cannot_be}
 
 -- An entry once a group at a place came by, which is for it or not.
-abbrev pub met_once : Bool → ℕ → Met → Met
-met_once b place Met.Absent = pick b (Met.At place) Met.Absent
-met_once b place (Met.At before) = Met.At before
+abbrev pub met_once : Bool → ℕ → Option ℕ → Option ℕ
+met_once b place None = pick b (Some place) None
+met_once b place (Some before) = Some before
 
-abbrev pub with : Entry → Met → Entry
+abbrev pub with : Entry → Option ℕ → Entry
 with e m = record { place = e.place; kind = e.kind; met = m }
 
 abbrev pub meet : ℕ → ℕ → Kind → Entry → Entry
 meet tolerance place kind e = with e (met_once (is_for tolerance place kind e) place e.met)
 
 -- What does not wait stays as it is, and what waits is met.
-met_stays : (b : Bool) (place : ℕ) (m : Met) → (is_absent m && b) ≡ false → met_once b place m ≡ m
-met_stays b place Met.Absent h = ap (λ (c : Bool). pick c (Met.At place) Met.Absent) h
-met_stays b place (Met.At q) h = refl
+met_stays : (b : Bool) (place : ℕ) (m : Option ℕ) → (is_absent m && b) ≡ false → met_once b place m ≡ m
+met_stays b place None h = ap (λ (c : Bool). pick c (Some place) None) h
+met_stays b place (Some q) h = refl
 
-met_now : (b : Bool) (place : ℕ) (m : Met) → (is_absent m && b) ≡ true → met_once b place m ≡ Met.At place
-met_now b place Met.Absent h = ap (λ (c : Bool). pick c (Met.At place) Met.Absent) h
-met_now b place (Met.At q) h = cannot_be cc
+met_now : (b : Bool) (place : ℕ) (m : Option ℕ) → (is_absent m && b) ≡ true → met_once b place m ≡ Some place
+met_now b place None h = ap (λ (c : Bool). pick c (Some place) None) h
+met_now b place (Some q) h = cannot_be cc
 
 module _ (tolerance place : ℕ) (kind : Kind) where
   stays : (e : Entry) → waits tolerance place kind e ≡ false → meet tolerance place kind e ≡ e

@@ -1,5 +1,6 @@
 -- Lines taken one after the other: the plan after them, the answers, and the counts.
 -- Assumes nothing.
+use Rattle.std.proofs.Common.{Option, Some, None}
 use Prim.Native.Nat.{ℕ, suc, ◌+◌, ◌*◌, ◌≤◌, ◌<◌}
 use native.Mathlib.Omega.{arith}
 use mathlib.Core.Path.{◌≡◌, refl, sym, ap, ap₂, ◌∙◌}
@@ -10,7 +11,6 @@ use borrow.Author.Tests.{lt-ltb}
 use Rattle.words.specs.Answer.{pick}
 use Rattle.words.specs.Limits.{largest64}
 use Rattle.ride.specs.declared.Line.{Line}
-use Rattle.acceptance.specs.declared.Met.{Met}
 use Rattle.acceptance.specs.declared.Entry.{Entry}
 use Rattle.acceptance.specs.declared.Acceptance.{Acceptance}
 use Rattle.acceptance.specs.declared.Took.{Took}
@@ -34,29 +34,29 @@ answers_to s (l ∷ ls) = take_line s l ∷ answers_to (take_line s l).state ls
 -- ---- the plan after some lines
 
 -- An entry after some lines: one that was met stays so, another is met by the first group for it.
-abbrev pub met_all : Met → Met → Met
-met_all first Met.Absent = first
-met_all first (Met.At place) = Met.At place
+abbrev pub met_all : Option ℕ → Option ℕ → Option ℕ
+met_all first None = first
+met_all first (Some place) = Some place
 
 abbrev pub after_lines : ℕ → List Line → Entry → Entry
 after_lines tolerance ls e = with e (met_all (first_for tolerance e ls) e.met)
 
-met_twice : (b : Bool) (place : ℕ) (first m : Met) → met_all first (met_once b place m) ≡ met_all (pick b (Met.At place) first) m
-met_twice true place first Met.Absent = refl
-met_twice false place first Met.Absent = refl
-met_twice b place first (Met.At q) = refl
+met_twice : (b : Bool) (place : ℕ) (first m : Option ℕ) → met_all first (met_once b place m) ≡ met_all (pick b (Some place) first) m
+met_twice true place first None = refl
+met_twice false place first None = refl
+met_twice b place first (Some q) = refl
 
-none_yet : (m : Met) → met_all Met.Absent m ≡ m
-none_yet Met.Absent = refl
-none_yet (Met.At q) = refl
+none_yet : (m : Option ℕ) → met_all None m ≡ m
+none_yet None = refl
+none_yet (Some q) = refl
 
 one_line : (tolerance : ℕ) (l : Line) (ls : List Line) (e : Entry) → after_lines tolerance ls (after_line tolerance l e) ≡ after_lines tolerance (l ∷ ls) e
 unfolding first_for
 one_line tolerance l ls e =
-    let m : Met = met_once (is_group_for tolerance e l) (place_in l) e.met in
-    ap (λ (x : Met). with e (met_all x m)) (first_same tolerance e m ls)
+    let m : Option ℕ = met_once (is_group_for tolerance e l) (place_in l) e.met in
+    ap (λ (x : Option ℕ). with e (met_all x m)) (first_same tolerance e m ls)
     ∙ ap (with e) (met_twice (is_group_for tolerance e l) (place_in l) (first_for tolerance e ls) e.met)
-    ∙ ap (λ (x : Met). with e (met_all x e.met)) (sym (first_of tolerance e l ls))
+    ∙ ap (λ (x : Option ℕ). with e (met_all x e.met)) (sym (first_of tolerance e l ls))
 
 map_twice : (tolerance : ℕ) (l : Line) (ls : List Line) (es : List Entry)
     → map (after_lines tolerance ls) (map (after_line tolerance l) es) ≡ map (after_lines tolerance (l ∷ ls)) es

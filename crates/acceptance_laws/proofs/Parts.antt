@@ -1,5 +1,6 @@
 -- The part of each line: wanted exactly if it is the first present group for an entry.
 -- Assumes nothing.
+use Rattle.std.proofs.Common.{Some, None}
 use Prim.Native.Nat.{ℕ, zero, suc, ◌<◌}
 use native.Mathlib.Omega.{arith}
 use mathlib.Core.Path.{◌≡◌, refl, sym, ap, ap₂, ◌∙◌}
@@ -11,7 +12,6 @@ use Rattle.words.specs.Answer.{pick}
 use Rattle.words.proofs.Never.{cannot_be}
 use Rattle.group_rows.specs.declared.Kind.{Kind}
 use Rattle.ride.specs.declared.Line.{Line}
-use Rattle.acceptance.specs.declared.Met.{Met}
 use Rattle.acceptance.specs.declared.Entry.{Entry}
 use Rattle.acceptance.specs.declared.Acceptance.{Acceptance}
 use Rattle.acceptance.specs.declared.Role.{Role}
@@ -40,7 +40,7 @@ absent_first tolerance e [] = refl
 absent_first tolerance e (l ∷ ls) = ap is_absent (first_of tolerance e l ls) ∙ by_test (is_group_for tolerance e l) (absent_first tolerance e ls)
   where
     by_test : (b : Bool) → is_absent (first_for tolerance e ls) ≡ not (some_for tolerance e ls)
-        → is_absent (pick b (Met.At (place_in l)) (first_for tolerance e ls)) ≡ not (b || some_for tolerance e ls)
+        → is_absent (pick b (Some (place_in l)) (first_for tolerance e ls)) ≡ not (b || some_for tolerance e ls)
     by_test true h = refl
     by_test false h = h
 
@@ -60,7 +60,7 @@ module _ (s : Acceptance) (ls : List Line) (a : apart s.tolerance (planned s) �
   pub entry_after : (i : ℕ) → i < length (planned s) → get_or (planned (run_over s ls)) i no_entry ≡ after_lines s.tolerance ls (get_or (planned s) i no_entry)
   entry_after i h = ap (λ (es : List Entry). get_or es i no_entry) (plan_over s ls a) ∙ get_d_map (after_lines s.tolerance ls) (planned s) i h
 
-  module _ (i : ℕ) (h : i < length (planned s)) (fresh : (get_or (planned s) i no_entry).met ≡ Met.Absent) where
+  module _ (i : ℕ) (h : i < length (planned s)) (fresh : (get_or (planned s) i no_entry).met ≡ None) where
     pub entry_met : (get_or (planned (run_over s ls)) i no_entry).met ≡ first_for s.tolerance (get_or (planned s) i no_entry) ls
     entry_met =
         ap (λ (e : Entry). e.met) (entry_after i h) ∙ ap (met_all (first_for s.tolerance (get_or (planned s) i no_entry) ls)) fresh
@@ -83,7 +83,7 @@ module _ (s : Acceptance) (ls : List Line) (a : apart s.tolerance (planned s) �
   abbrev e : Entry
   e = get_or (planned s) i no_entry
 
-  module _ (h : i < length (planned s)) (fresh : e.met ≡ Met.Absent) (for : is_group_for s.tolerance e l ≡ true) (first : some_for s.tolerance e ls ≡ false) where
+  module _ (h : i < length (planned s)) (fresh : e.met ≡ None) (for : is_group_for s.tolerance e l ≡ true) (first : some_for s.tolerance e ls ≡ false) where
     waits_now : waits now.tolerance (place_in l) (kind_in l) (get_or (planned now) i no_entry) ≡ true
     waits_now =
         waits_is s ls a i h fresh (place_in l) (kind_in l)
@@ -110,7 +110,7 @@ module _ (s : Acceptance) (ls : List Line) (a : apart s.tolerance (planned s) �
     pub first_wanted : (take_line now l).answer ≡ Role.Wanted i
     first_wanted = by_case (case now l)
 
-  module _ (fresh : (i : ℕ) → (get_or (planned s) i no_entry).met ≡ Met.Absent) where
+  module _ (fresh : (i : ℕ) → (get_or (planned s) i no_entry).met ≡ None) where
     by_answer : Case now l → (take_line now l).answer ≡ Role.Wanted i
         → (i < length (planned s)) × (is_group_for s.tolerance e l ≡ true) × (some_for s.tolerance e ls ≡ false)
     by_answer (none g is) p =
@@ -138,7 +138,7 @@ module _ (s : Acceptance) (ls : List Line) (a : apart s.tolerance (planned s) �
 
 -- ---- an extra group: a present one that is the first for no entry
 
-module _ (s : Acceptance) (ls : List Line) (a : apart s.tolerance (planned s) ≡ true) (l : Line) (fresh : (i : ℕ) → (get_or (planned s) i no_entry).met ≡ Met.Absent) where
+module _ (s : Acceptance) (ls : List Line) (a : apart s.tolerance (planned s) ≡ true) (l : Line) (fresh : (i : ℕ) → (get_or (planned s) i no_entry).met ≡ None) where
   abbrev MetNone : Type 0
   MetNone =
       (i : ℕ) → i < length (planned s) → is_group_for s.tolerance (get_or (planned s) i no_entry) l ≡ true

@@ -1,5 +1,6 @@
 -- A plan that is good, its entries and its tolerance; none of them is met yet.
 -- Assumes nothing.
+use Rattle.std.proofs.Common.{None, Ok}
 use Prim.Native.Nat.{ℕ, zero, suc, ◌-◌, ◌≤◌}
 use native.Mathlib.Omega.{arith}
 use mathlib.Core.Path.{◌≡◌, refl, sym, ap, ◌∙◌}
@@ -10,10 +11,8 @@ use lib.ListN.{length, get_or, replicate}
 use lib.Seq.{take_at}
 use Rattle.words.specs.Answer.{Outcome, gives, refuses, pick}
 use Rattle.words.proofs.Never.{cannot_be}
-use Rattle.acceptance.specs.declared.Met.{Met}
 use Rattle.acceptance.specs.declared.Entry.{Entry}
 use Rattle.acceptance.specs.declared.Acceptance.{Acceptance}
-use Rattle.acceptance.specs.declared.PlanJudged.{PlanJudged}
 use Rattle.acceptance.specs.declared.Planned.{Planned}
 use Rattle.acceptance.specs.Plan.{Good, good, Planning, entry_of, entries_of, no_entry, apart, well_formed, plan_with, empty_plan, plan}
 use Rattle.acceptance.specs.Taking.{planned, is_absent}
@@ -24,7 +23,7 @@ good_by : (x y z : Bool) (p : Planned) (whole : Acceptance)
     → says_planned p
     ≡ pick x (pick y (pick z (record { answer = gives good; plan = whole }) (record { answer = refuses 27; plan = empty_plan })) (record { answer = refuses 26; plan = empty_plan }))
     (record { answer = refuses 28; plan = empty_plan })
-    → p.judged ≡ PlanJudged.Good → (z ≡ true) × (p.plan ≡ whole)
+    → p.judged ≡ Ok tt → (z ≡ true) × (p.plan ≡ whole)
 good_by true true true p whole e g = (refl, ap (λ (q : Planning). q.plan) e)
 good_by true true false p whole e g =
     let q : ◌≡◌ {A = Outcome Good} (gives good) (refuses 27) = sym (ap says_plan_judged g) ∙ ap (λ (q : Planning). q.answer) e in
@@ -36,7 +35,7 @@ good_by false y z p whole e g =
     let q : ◌≡◌ {A = Outcome Good} (gives good) (refuses 28) = sym (ap says_plan_judged g) ∙ ap (λ (q : Planning). q.answer) e in
     cannot_be cc
 
-pub good_plan : (b : List ℕ) (tolerance : ℕ) (p : Planned) → says_planned p ≡ plan b tolerance → p.judged ≡ PlanJudged.Good
+pub good_plan : (b : List ℕ) (tolerance : ℕ) (p : Planned) → says_planned p ≡ plan b tolerance → p.judged ≡ Ok tt
     → (apart tolerance (entries_of b) ≡ true) × (p.plan ≡ plan_with tolerance (entries_of b))
 unfolding plan
 good_plan b tolerance p e g =
@@ -55,7 +54,7 @@ unfolding plan_with
 plan_extra tolerance es = refl
 
 -- A plan's entries are not met yet.
-pub unmet : (rs : List (List ℕ)) (i : ℕ) → (get_or (map entry_of rs) i no_entry).met ≡ Met.Absent
+pub unmet : (rs : List (List ℕ)) (i : ℕ) → (get_or (map entry_of rs) i no_entry).met ≡ None
 unfolding entry_of
 unmet [] i = refl
 unmet (r ∷ rs) zero = refl

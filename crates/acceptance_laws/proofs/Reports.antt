@@ -1,5 +1,6 @@
 -- The answers to some lines, and what is reported after them.
 -- Assumes nothing.
+use Rattle.std.proofs.Common.{Some, None}
 use Prim.Native.Nat.{ℕ, zero, suc, ◌+◌, ◌-◌, ◌≤◌, ◌<◌}
 use native.Mathlib.Omega.{arith}
 use mathlib.Core.Path.{◌≡◌, refl, ap, ap₂, ◌∙◌}
@@ -12,7 +13,6 @@ use Rattle.ride.specs.declared.Line.{Line}
 use Rattle.acceptance.specs.declared.Entry.{Entry}
 use Rattle.acceptance.specs.declared.Acceptance.{Acceptance}
 use Rattle.acceptance.specs.declared.Took.{Took}
-use Rattle.acceptance.specs.declared.Reported.{Reported}
 use Rattle.acceptance.specs.declared.Sums.{Sums}
 use Rattle.acceptance.specs.Plan.{no_entry}
 use Rattle.acceptance.specs.Taking.{planned, take_line}
@@ -48,13 +48,13 @@ some_at tolerance e (l ∷ ls) (suc k) (suc m) h j g =
 
 -- ---- the report
 
-pub reported : (s : Acceptance) (i : ℕ) → i < length (planned s) → report s i ≡ Reported.Entry (get_or (planned s) i no_entry)
+pub reported : (s : Acceptance) (i : ℕ) → i < length (planned s) → report s i ≡ Some (get_or (planned s) i no_entry)
 unfolding report
-reported s i h = ap (λ (b : Bool). pick b (Reported.Entry (get_or (planned s) i no_entry)) Reported.NoEntry) (lt-ltb i (length (planned s)) h)
+reported s i h = ap (λ (b : Bool). pick b (Some (get_or (planned s) i no_entry)) None) (lt-ltb i (length (planned s)) h)
 
-pub not_reported : (s : Acceptance) (i : ℕ) → length (planned s) ≤ i → report s i ≡ Reported.NoEntry
+pub not_reported : (s : Acceptance) (i : ℕ) → length (planned s) ≤ i → report s i ≡ None
 unfolding report
-not_reported s i h = ap (λ (b : Bool). pick b (Reported.Entry (get_or (planned s) i no_entry)) Reported.NoEntry) (le-ltb i (length (planned s)) h)
+not_reported s i h = ap (λ (b : Bool). pick b (Some (get_or (planned s) i no_entry)) None) (le-ltb i (length (planned s)) h)
 
 pub sums_are : (s : Acceptance) (x : Sums) → x ≡ sum_up s → (x.entries ≡ length (planned s)) × (x.met ≡ met_in (planned s)) × (x.absent ≡ length (planned s) - met_in (planned s))
     × (x.present ≡ up_to_most (met_in (planned s) + s.extra)) × (x.extra ≡ s.extra)

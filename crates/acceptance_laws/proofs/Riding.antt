@@ -1,6 +1,7 @@
 -- A ride's lines, by its steps and by the program's calls: both come to the run over the ride's own
 -- lines.
 -- Assumes nothing.
+use Rattle.std.proofs.Common.{Result}
 use Prim.Native.Nat.{ℕ, suc, ◌+◌}
 use native.Mathlib.Omega.{arith}
 use native.Mathlib.Nat.{zero-add}
@@ -23,7 +24,7 @@ use Rattle.ride.specs.declared.Stepped.{Stepped}
 use Rattle.acceptance.specs.Report.{up_to_most}
 use Rattle.acceptance_text.specs.declared.Going.{Going}
 use Rattle.acceptance_text.specs.declared.Advanced.{Advanced}
-use Rattle.acceptance_text.specs.declared.Ending.{Ending}
+use Rattle.acceptance_text.specs.declared.NotEnded.{NotEnded}
 use Rattle.acceptance_text.specs.Taking.{Taking, started, take_all}
 use Rattle.acceptance_text.specs.Accept.{began, Advance, accept_of, accept_taken, stands, Finish, finish}
 use Rattle.acceptance_text.specs.Says.{says_advanced, says_progress, says_finished}
@@ -122,7 +123,7 @@ module _ (store : Store) (cards : List (List ℕ)) (f : Ride) (r : Run) (calls :
   last_is : last_text last ≡ at_end.text
   last_is =
       let n : ℕ = length at_end.text in
-      ap (λ (x : Ending). take (wrote x) last.after) (ap (λ (x : Finish). x.ending) ended_is)
+      ap (λ (x : Result ℕ NotEnded). take (wrote x) last.after) (ap (λ (x : Finish). x.ending) ended_is)
       ∙ ap (take n) (ap (λ (x : Finish). x.out) ended_is)
       ∙ ap (λ (k : ℕ). take k (finished (end over.ride).ride at_end last.before).out) (sym (zero-add n))
       ∙ placed_start at_end.text last.before

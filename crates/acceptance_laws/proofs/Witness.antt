@@ -1,5 +1,6 @@
 -- There are such runs and such calls: over any ride, and over any card of whole records.
 -- Assumes nothing.
+use Rattle.std.proofs.Common.{Ok}
 use Prim.Native.Nat.{ℕ, ◌*◌, ◌%◌, ◌≤◌}
 use native.Mathlib.Omega.{arith}
 use mathlib.Core.Path.{◌≡◌, refl, sym}
@@ -16,9 +17,8 @@ use Rattle.acceptance.specs.declared.Acceptance.{Acceptance}
 use Rattle.acceptance.specs.declared.Took.{Took}
 use Rattle.acceptance.specs.Taking.{take_line}
 use Rattle.acceptance_text.specs.declared.Going.{Going}
-use Rattle.acceptance_text.specs.declared.Progress.{Progress}
+use Rattle.std.specs.Prelude.{Ok}
 use Rattle.acceptance_text.specs.declared.Advanced.{Advanced}
-use Rattle.acceptance_text.specs.declared.Ending.{Ending}
 use Rattle.acceptance_text.specs.Taking.{Taking, take_all}
 use Rattle.acceptance_text.specs.Accept.{began, accept_of, taken}
 use Rattle.acceptance_text.proofs.Ends.{accept_taken_law, finish_is}
@@ -59,7 +59,7 @@ module _ (going : Going) (store : Store) (card : List ℕ) (good : Good store) (
       record {
         block = card;
         before = room;
-        answer = record { going = standing ridden.ride took; progress = Progress.Took many (length took.text) };
+        answer = record { going = standing ridden.ride took; progress = Ok (record { records = many; bytes = length took.text }) };
         after = placed took.text room 0;
       }
 
@@ -96,7 +96,7 @@ module _ (going : Going) where
   the_last =
       record {
         before = space;
-        answer = record { going = standing (end going.ride).ride at_end; ending = Ending.Wrote (length at_end.text) };
+        answer = record { going = standing (end going.ride).ride at_end; ending = Ok (length at_end.text) };
         after = placed at_end.text space 0;
       }
 

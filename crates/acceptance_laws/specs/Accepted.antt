@@ -1,15 +1,13 @@
 -- What is promised of an acceptance run (document 02, M-113), for any good plan and any lines. That
 -- all of it holds: proofs/Accepted.antt.
 -- Assumes nothing.
-use Rattle.std.specs.Prelude.{ℕ, ◌+◌, ◌≤◌, ◌<◌, ◌^◌, ◌≡◌, true, false, not, List, [], ◌∷◌, length, take, get_or}
+use Rattle.std.specs.Prelude.{ℕ, ◌+◌, ◌≤◌, ◌<◌, ◌^◌, ◌≡◌, true, false, not, List, [], ◌∷◌, length, take, get_or, Option, Some, None, Ok}
 use Rattle.ride.specs.declared.Line.{Line}
 use Rattle.acceptance.specs.declared.Entry.{Entry}
 use Rattle.acceptance.specs.declared.Acceptance.{Acceptance}
-use Rattle.acceptance.specs.declared.PlanJudged.{PlanJudged}
 use Rattle.acceptance.specs.declared.Planned.{Planned}
 use Rattle.acceptance.specs.declared.Role.{Role}
 use Rattle.acceptance.specs.declared.Took.{Took}
-use Rattle.acceptance.specs.declared.Reported.{Reported}
 use Rattle.acceptance.specs.declared.Sums.{Sums}
 use Rattle.acceptance.specs.Plan.{entries_of, no_entry}
 use Rattle.acceptance.specs.Taking.{is_absent, no_part}
@@ -37,7 +35,7 @@ pub record Run : Type 0 where
   pub lines : List Line
   pub answers : List Took
   pub is_plan : Plans bytes tolerance planned
-  pub is_good_law : planned.judged ≡ PlanJudged.Good
+  pub is_good_law : planned.judged ≡ Ok tt
   pub are_taken : Taken planned.plan lines answers
 
 -- The run at its end.
@@ -71,9 +69,9 @@ part r k = (get_or r.answers k (no_part r.planned.plan)).answer
 pub record Accepted (r : Run) : Type 0 where
   -- "an entry is met by the first present group of its kind whose A place lies within the
   -- tolerance": so says the report of each entry,
-  pub each_entry : (i : ℕ) (x : Reported) → i < entries r → Reports (ended r) i x
-      → x ≡ Reported.Entry (record { place = (entry r i).place; kind = (entry r i).kind; met = first_for r.tolerance (entry r i) r.lines })
-  pub no_other : (i : ℕ) (x : Reported) → entries r ≤ i → Reports (ended r) i x → x ≡ Reported.NoEntry
+  pub each_entry : (i : ℕ) (x : Option Entry) → i < entries r → Reports (ended r) i x
+      → x ≡ Some (record { place = (entry r i).place; kind = (entry r i).kind; met = first_for r.tolerance (entry r i) r.lines })
+  pub no_other : (i : ℕ) (x : Option Entry) → entries r ≤ i → Reports (ended r) i x → x ≡ None
   -- and it is met exactly if there is such a group
   pub met_exactly : (i : ℕ) → is_absent (first_for r.tolerance (entry r i) r.lines) ≡ not (some_for r.tolerance (entry r i) r.lines)
   -- "Met and absent together equal the plan's length"

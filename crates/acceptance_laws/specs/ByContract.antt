@@ -4,7 +4,7 @@
 -- stands in demands/specs/Plans.antt.
 -- Assumes nothing.
 use denote.MutBor.{MutBor}
-use Rattle.std.specs.Prelude.{ℕ, ◌≡◌, List}
+use Rattle.std.specs.Prelude.{ℕ, ◌≡◌, List, Option}
 use contract.Lifetimes.{Lfts}
 use Rattle.std.specs.Borrow.{Bor}
 use borrow.Fn.Kinds.{ended_of}
@@ -12,8 +12,8 @@ use denote.Triple.Clauses.{AtExit}
 use Rattle.settings.specs.declared.Store.{Store}
 use Rattle.ride.specs.declared.Line.{Line}
 use Rattle.acceptance.specs.declared.Acceptance.{Acceptance}
+use Rattle.acceptance.specs.declared.Entry.{Entry}
 use Rattle.acceptance.specs.declared.Took.{Took}
-use Rattle.acceptance.specs.declared.Reported.{Reported}
 use Rattle.acceptance.specs.declared.Sums.{Sums}
 use Rattle.acceptance_text.specs.declared.Going.{Going}
 use Rattle.acceptance_text.specs.declared.Advanced.{Advanced}
@@ -34,7 +34,7 @@ abbrev pub Takes : Acceptance → Line → Took → Type 0
 Takes run line r = (e : AtExit (ended_of 0 take_kinds.ps take_kinds.r) tt) × take_reads.Post tt (run, (line, tt)) r e
 
 -- The contract of `report` allows the answer r for this run and index.
-abbrev pub Reports : Acceptance → ℕ → Reported → Type 0
+abbrev pub Reports : Acceptance → ℕ → Option Entry → Type 0
 Reports run i r = (e : AtExit (ended_of 0 report_kinds.ps report_kinds.r) tt) × report_reads.Post tt (run, (i, tt)) r e
 
 -- The contract of `sum_up` allows the answer r for this run.

@@ -1,14 +1,15 @@
 -- Calls of `accept` over the records of a ride, one after the other, and then one of `finish`, as
 -- the program makes them.
 -- Assumes nothing.
-use Rattle.std.specs.Prelude.{ℕ, ◌≤◌, List, length, take}
+use Rattle.std.specs.Prelude.{ℕ, ◌≤◌, List, length, take, Result, Ok, Err}
 use Rattle.settings.specs.declared.Store.{Store}
 use Rattle.ride.specs.declared.Ride.{Ride}
 use Rattle.acceptance.specs.declared.Acceptance.{Acceptance}
 use Rattle.acceptance_text.specs.declared.Going.{Going}
-use Rattle.acceptance_text.specs.declared.Progress.{Progress}
+use Rattle.ride.specs.declared.TraceRefused.{TraceRefused}
+use Rattle.ride_text.specs.declared.Took.{Took}
 use Rattle.acceptance_text.specs.declared.Advanced.{Advanced}
-use Rattle.acceptance_text.specs.declared.Ending.{Ending}
+use Rattle.acceptance_text.specs.declared.NotEnded.{NotEnded}
 use Rattle.acceptance_text.specs.declared.Finished.{Finished}
 use Rattle.demands.specs.TraceCalls.{Call, ByCalls, texts_of, last_of}
 use Rattle.acceptance_laws.specs.ByContract.{AcceptInto, FinishInto}
@@ -18,15 +19,13 @@ abbrev pub set_out : Ride → Acceptance → Going
 set_out ride run = record { ride = ride; run = run; troubles = record { faults = 0; refused = 0 } }
 
 -- How many records a call took, and how many bytes it wrote; a refused one none.
-abbrev pub taken : Progress → ℕ
-taken (Progress.Took records bytes) = records
-taken (Progress.Settings bad) = 0
-taken Progress.Length = 0
+abbrev pub taken : Result Took TraceRefused → ℕ
+taken (Ok took) = took.records
+taken (Err refused) = 0
 
-abbrev pub bytes_of : Progress → ℕ
-bytes_of (Progress.Took records bytes) = bytes
-bytes_of (Progress.Settings bad) = 0
-bytes_of Progress.Length = 0
+abbrev pub bytes_of : Result Took TraceRefused → ℕ
+bytes_of (Ok took) = took.bytes
+bytes_of (Err refused) = 0
 
 -- The contract of `accept` allows the call, under a store, for a run on its way.
 abbrev pub AcceptCall : Store → Going → Call Advanced → Type 0
@@ -55,9 +54,9 @@ abbrev pub Ends : Going → Last → Type 0
 Ends going l = (128 ≤ length l.before) × FinishInto going l.before l.answer l.after
 
 -- The text that it writes.
-abbrev pub wrote : Ending → ℕ
-wrote (Ending.Wrote n) = n
-wrote Ending.NoRoom = 0
+abbrev pub wrote : Result ℕ NotEnded → ℕ
+wrote (Ok n) = n
+wrote (Err NotEnded.NoRoom) = 0
 
 abbrev pub last_text : Last → List ℕ
 last_text l = take (wrote l.answer.ending) l.after

@@ -3,7 +3,7 @@
 -- program's calls, whatever their blocks, come to the run over those lines; that such runs are; and
 -- why neighbours lie more than twice the tolerance apart. That all of it holds: proofs/Depot.antt.
 -- Assumes nothing.
-use Rattle.std.specs.Prelude.{ℕ, ◌*◌, ◌≤◌, ◌≡◌, true, List, [], ◌∷◌, ◌++◌, length, get_or}
+use Rattle.std.specs.Prelude.{ℕ, ◌*◌, ◌≤◌, ◌≡◌, true, List, [], ◌∷◌, ◌++◌, length, get_or, Some, None}
 use Rattle.words.specs.Answer.{refuses}
 use Rattle.settings.specs.declared.Store.{Store}
 use Rattle.settings.specs.At.{gap_at}
@@ -19,7 +19,6 @@ use Rattle.ride.specs.declared.Line.{Line}
 use Rattle.ride.specs.declared.Mark.{Mark}
 use Rattle.ride.specs.declared.Ride.{Ride}
 use Rattle.ride.specs.declared.Stepped.{Stepped}
-use Rattle.acceptance.specs.declared.Met.{Met}
 use Rattle.acceptance.specs.declared.Entry.{Entry}
 use Rattle.acceptance.specs.declared.Took.{Took}
 use Rattle.acceptance.specs.Plan.{no_entry, plan_with, plan}
@@ -89,10 +88,10 @@ group_at place kind = Line.Group (record { place = place; direction = Direction.
 
 -- Two entries exactly twice the tolerance of 5 dm apart, and a group between them.
 abbrev pub one : Entry
-one = record { place = 1000; kind = Kind.Signal; met = Met.Absent }
+one = record { place = 1000; kind = Kind.Signal; met = None }
 
 abbrev pub two : Entry
-two = record { place = 1010; kind = Kind.Signal; met = Met.Absent }
+two = record { place = 1010; kind = Kind.Signal; met = None }
 
 abbrev pub between : Line
 between = group_at 1005 Kind.Signal
@@ -102,8 +101,8 @@ between = group_at 1005 Kind.Signal
 -- kind lies within the tolerance. So such a plan is refused.
 pub record TooNear : Type 0 where
   pub for_both : (is_group_for 5 one between ≡ true) × (is_group_for 5 two between ≡ true)
-  pub left_absent : (get_or (planned (take_line (plan_with 5 (one ∷ two ∷ [])) between).state) 1 no_entry).met ≡ Met.Absent
-  pub though_there : first_for 5 two (between ∷ []) ≡ Met.At 1005
+  pub left_absent : (get_or (planned (take_line (plan_with 5 (one ∷ two ∷ [])) between).state) 1 no_entry).met ≡ None
+  pub though_there : first_for 5 two (between ∷ []) ≡ Some 1005
   pub refused : (plan (0 ∷ 0 ∷ 3 ∷ 232 ∷ 0 ∷ 0 ∷ 0 ∷ 0 ∷ 0 ∷ 0 ∷ 3 ∷ 242 ∷ 0 ∷ 0 ∷ 0 ∷ 0 ∷ []) 5).answer ≡ refuses 27
 
 pub record Depot : Type 0 where

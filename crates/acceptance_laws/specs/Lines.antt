@@ -2,10 +2,9 @@
 -- M-113): "an entry is met by the first present group of its kind whose A place lies within the
 -- tolerance."
 -- Assumes nothing.
-use Rattle.std.specs.Prelude.{ℕ, suc, Bool, true, false, ◌&&◌, ◌||◌, List, [], ◌∷◌}
+use Rattle.std.specs.Prelude.{ℕ, suc, Bool, true, false, ◌&&◌, ◌||◌, List, [], ◌∷◌, Option, Some, None}
 use Rattle.words.specs.Answer.{pick}
 use Rattle.ride.specs.declared.Line.{Line}
-use Rattle.acceptance.specs.declared.Met.{Met}
 use Rattle.acceptance.specs.declared.Entry.{Entry}
 use Rattle.acceptance.specs.declared.Role.{Role}
 use Rattle.acceptance.specs.declared.Took.{Took}
@@ -39,9 +38,9 @@ some_for tolerance e [] = false
 some_for tolerance e (l ∷ ls) = is_group_for tolerance e l || some_for tolerance e ls
 
 -- and where the A balise of the first such group lies.
-unfoldable pub first_for : ℕ → Entry → List Line → Met
-first_for tolerance e [] = Met.Absent
-first_for tolerance e (Line.Group g ∷ ls) = pick (is_group_for tolerance e (Line.Group g)) (Met.At g.place) (first_for tolerance e ls)
+unfoldable pub first_for : ℕ → Entry → List Line → Option ℕ
+first_for tolerance e [] = None
+first_for tolerance e (Line.Group g ∷ ls) = pick (is_group_for tolerance e (Line.Group g)) (Some g.place) (first_for tolerance e ls)
 first_for tolerance e (Line.Fault place n ∷ ls) = first_for tolerance e ls
 first_for tolerance e (Line.Missed place ∷ ls) = first_for tolerance e ls
 first_for tolerance e (Line.Record number n ∷ ls) = first_for tolerance e ls

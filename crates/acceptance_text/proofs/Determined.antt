@@ -4,9 +4,10 @@ use mathlib.Core.Path.{◌≡◌, refl, sym, ap, ◌∙◌}
 use Prim.Native.Nat.{ℕ}
 use mathlib.Core.List.{List}
 use Rattle.words.specs.Answer.{Outcome, gives, refuses}
-use Rattle.ride.specs.declared.Way.{Way}
-use Rattle.ride.proofs.Determined.{way_of, way_back}
-use Rattle.acceptance_text.specs.declared.Progress.{Progress}
+use Rattle.std.specs.Prelude.{Result, Ok, Err}
+use Rattle.ride.specs.declared.TraceRefused.{TraceRefused}
+use Rattle.ride.proofs.Determined.{trace_refused_of, trace_refused_back}
+use Rattle.ride_text.specs.declared.Took.{Took}
 use Rattle.acceptance_text.specs.declared.Advanced.{Advanced}
 use Rattle.acceptance_text.specs.Accept.{Taken, Advance, Finish}
 use Rattle.acceptance_text.specs.Says.{says_progress, says_advanced, says_finished}
@@ -42,27 +43,20 @@ is_passed_determined κs a r r' x x' p q = p ∙ sym q
 pub put_last_determined : FixedWith 1 put_last_kinds.ps put_last_kinds.r put_last_reads.Post (λ κs x. x.1.1.1.0.now)
 put_last_determined κs a r r' x x' p q = same_put (p ∙ sym q)
 
--- A block is refused as a run is.
-abbrev refused_as : Way → Progress
-refused_as Way.Through = Progress.Length
-refused_as (Way.Settings bad) = Progress.Settings bad
-refused_as Way.Length = Progress.Length
-
 -- From what an answer says, the answer.
-abbrev pub progress_of : Outcome Taken → Progress
-progress_of (gives t) = Progress.Took t.records t.bytes
-progress_of (refuses n) = refused_as (way_of (refuses n))
+abbrev pub progress_of : Outcome Taken → Result Took TraceRefused
+progress_of (gives t) = Ok (record { records = t.records; bytes = t.bytes })
+progress_of (refuses n) = Err (trace_refused_of n)
 
-pub progress_back : (d : Progress) → progress_of (says_progress d) ≡ d
-progress_back (Progress.Took records bytes) = refl
-progress_back (Progress.Settings bad) = ap refused_as (way_back (Way.Settings bad))
-progress_back Progress.Length = refl
+pub progress_back : (d : Result Took TraceRefused) → progress_of (says_progress d) ≡ d
+progress_back (Ok t) = refl
+progress_back (Err r) = ap Err (trace_refused_back r)
 
 abbrev pub advanced_of : Advance → Advanced
 advanced_of a = record { going = a.going; progress = progress_of a.answer }
 
 pub advanced_back : (r : Advanced) (out : List ℕ) → advanced_of (says_advanced r out) ≡ r
-advanced_back r out = ap (λ (p : Progress). record { going = r.going; progress = p }) (progress_back r.progress)
+advanced_back r out = ap (λ (p : Result Took TraceRefused). record { going = r.going; progress = p }) (progress_back r.progress)
 
 pub accept_determined : FixedWith 2 accept_kinds.ps accept_kinds.r accept_reads.Post (λ κs x. x.1.1.1.0.now)
 accept_determined κs a r r' x x' p q =

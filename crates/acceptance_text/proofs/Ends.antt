@@ -1,5 +1,6 @@
 -- The end of the ride and the refusals of a block, from what their tests say.
 -- Assumes nothing.
+use Rattle.std.proofs.Common.{Ok, Err}
 use Prim.Native.Nat.{ℕ, ◌%◌, ◌≤◌, ◌<◌}
 use native.Mathlib.Omega.{arith}
 use mathlib.Core.Path.{◌≡◌, sym, ap, ap₂, ◌∙◌}
@@ -22,7 +23,7 @@ use Rattle.ride.specs.Over.{records}
 use Rattle.ride.specs.Says.{says_lines, says_ended}
 use Rattle.acceptance.specs.declared.Acceptance.{Acceptance}
 use Rattle.acceptance_text.specs.declared.Going.{Going}
-use Rattle.acceptance_text.specs.declared.Ending.{Ending}
+use Rattle.acceptance_text.specs.declared.NotEnded.{NotEnded}
 use Rattle.acceptance_text.specs.declared.taking.Troubles.{Troubles}
 use Rattle.acceptance_text.specs.declared.taking.Written.{Written}
 use Rattle.acceptance_text.specs.Taking.{Taking, take_all}
@@ -49,14 +50,14 @@ accept_taken_law g store trace out e h = rw (e, h)
 
 -- ---- the end
 
-pub no_end : (g : Going) (out : List ℕ) → length out < 128 → ◌≡◌ {A = Finish} (record { ending = Ending.NoRoom; going = g; out = out }) (finish g out)
+pub no_end : (g : Going) (out : List ℕ) → length out < 128 → ◌≡◌ {A = Finish} (record { ending = Err NotEnded.NoRoom; going = g; out = out }) (finish g out)
 unfolding finish
 no_end g out h = rw (lt-leb 128 (length out) h)
 
 -- What the end comes to, where there is room.
 abbrev pub finished : Ride → Taking → List ℕ → Finish
 finished ride t out =
-    record { ending = Ending.Wrote (length t.text); going = record { ride = ride; run = t.run; troubles = t.troubles }; out = placed t.text out 0 }
+    record { ending = Ok (length t.text); going = record { ride = ride; run = t.run; troubles = t.troubles }; out = placed t.text out 0 }
 
 pub finish_is : (g : Going) (out : List ℕ) → 128 ≤ length out → finish g out ≡ finished (end g.ride).ride (take_all (began g) (end g.ride).lines) out
 unfolding finish
@@ -64,13 +65,13 @@ finish_is g out h = rw (le-leb 128 (length out) h)
 
 pub at_end : (g : Going) (out : List ℕ) (e : Ended) (w : Written) (x : List ℕ) → 128 ≤ length out → says_ended e ≡ end g.ride
     → written w x ≡ writes (take_all (began g) (says_lines e.lines)) out 0
-    → ◌≡◌ {A = Finish} (record { ending = Ending.Wrote w.next; going = record { ride = e.ride; run = w.run; troubles = w.troubles }; out = x }) (finish g out)
+    → ◌≡◌ {A = Finish} (record { ending = Ok w.next; going = record { ride = e.ride; run = w.run; troubles = w.troubles }; out = x }) (finish g out)
 at_end g out e w x h is wrote =
     let t : Taking = take_all (began g) (says_lines e.lines) in
     let s = stands {t = t.text} (omega (arith, lines_short (began g) e.lines)) (ap (λ (z : Writing). z.text) wrote) in
     let next : w.next ≡ length t.text = omega (arith, s.put.0) in
-    ap₂ (λ (n : ℕ) (b : List ℕ). record { ending = Ending.Wrote n; going = record { ride = e.ride; run = w.run; troubles = w.troubles }; out = b }) next s.put.1
-    ∙ ap₂ (λ (r : Acceptance) (q : Troubles). record { ending = Ending.Wrote (length t.text); going = record { ride = e.ride; run = r; troubles = q }; out = placed t.text out 0 })
+    ap₂ (λ (n : ℕ) (b : List ℕ). record { ending = Ok n; going = record { ride = e.ride; run = w.run; troubles = w.troubles }; out = b }) next s.put.1
+    ∙ ap₂ (λ (r : Acceptance) (q : Troubles). record { ending = Ok (length t.text); going = record { ride = e.ride; run = r; troubles = q }; out = placed t.text out 0 })
     (ap (λ (z : Writing). z.run) wrote) (ap (λ (z : Writing). z.troubles) wrote)
     ∙ ap (λ (z : End). finished z.ride (take_all (began g) z.lines) out) is
     ∙ sym (finish_is g out h)

@@ -1,9 +1,9 @@
 -- The lines of an acceptance run, computed.
 -- Assumes nothing.
+use Rattle.std.proofs.Common.{Some, None}
 use mathlib.Core.Path.{◌≡◌, refl}
 use Rattle.text.specs.Text.{codes, digits, decimal}
 use Rattle.group_rows.specs.declared.Kind.{Kind}
-use Rattle.acceptance.specs.declared.Met.{Met}
 use Rattle.acceptance.specs.declared.Role.{Role}
 use Rattle.refusals.specs.Words.{table, worded, refused}
 use Rattle.acceptance_text.specs.Lines.{part_words, group_line, met_words, entry_line, sum_line, is_passed, trouble_line, verdict, last_lines, refused_line}
@@ -12,8 +12,8 @@ pub groups : (group_line 1003 Kind.Signal (Role.Wanted 0) ≡ codes "1003 signal
 unfolding group_line part_words decimal digits
 groups = (refl, refl)
 
-pub entries : (entry_line 0 (record { place = 1000; kind = Kind.Signal; met = Met.At 1003 }) ≡ codes "entry 1 at 1000 signal met at 1003\n")
-    × (entry_line 1 (record { place = 5000; kind = Kind.Line; met = Met.Absent }) ≡ codes "entry 2 at 5000 line absent\n")
+pub entries : (entry_line 0 (record { place = 1000; kind = Kind.Signal; met = Some 1003 }) ≡ codes "entry 1 at 1000 signal met at 1003\n")
+    × (entry_line 1 (record { place = 5000; kind = Kind.Line; met = None }) ≡ codes "entry 2 at 5000 line absent\n")
 unfolding entry_line met_words decimal digits
 entries = (refl, refl)
 

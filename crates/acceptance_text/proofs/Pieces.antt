@@ -1,5 +1,6 @@
 -- The lines by their pieces, as they are put, and how long they are at most.
 -- Assumes nothing.
+use Rattle.std.proofs.Common.{Option, Some, None}
 use mathlib.Core.Path.{◌≡◌, refl}
 use mathlib.Core.Bool.{Bool, true, false}
 use mathlib.Core.List.{List, ◌++◌, append_assoc}
@@ -13,7 +14,6 @@ use Rattle.text.specs.Text.{codes}
 use Rattle.text.proofs.Decimal.{decimal_length}
 use Rattle.text.proofs.Standing.{numbered}
 use Rattle.group_rows.specs.declared.Kind.{Kind}
-use Rattle.acceptance.specs.declared.Met.{Met}
 use Rattle.acceptance.specs.declared.Entry.{Entry}
 use Rattle.acceptance.specs.declared.Role.{Role}
 use Rattle.acceptance.specs.declared.Sums.{Sums}
@@ -32,7 +32,7 @@ pub group_is : (place : ℕ) (kind : Kind) (part : Role) → numbered "" place +
 unfolding group_line
 group_is place kind part = refl
 
-pub met_is : (place : ℕ) → numbered " met at " place ++ codes "\n" ≡ met_words (Met.At place)
+pub met_is : (place : ℕ) → numbered " met at " place ++ codes "\n" ≡ met_words (Some place)
 unfolding met_words
 met_is place = refl
 
@@ -74,10 +74,10 @@ part_length (Role.Wanted i) = simp length-append (omega (arith, decimal_length (
 part_length Role.Extra = omega arith
 part_length Role.NoPart = omega arith
 
-met_length : (m : Met) → length (met_words m) ≤ 29
+met_length : (m : Option ℕ) → length (met_words m) ≤ 29
 unfolding met_words
-met_length Met.Absent = omega arith
-met_length (Met.At place) = simp length-append (omega (arith, decimal_length place))
+met_length None = omega arith
+met_length (Some place) = simp length-append (omega (arith, decimal_length place))
 
 -- No line is longer than this.
 pub group_length : (place : ℕ) (kind : Kind) (part : Role) → length (group_line place kind part) ≤ 64

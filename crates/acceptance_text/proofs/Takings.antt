@@ -16,7 +16,8 @@ use Rattle.text.proofs.Standing.{keeps, stands, join}
 use Rattle.ride.specs.declared.Seen.{Seen}
 use Rattle.ride.specs.declared.Line.{Line}
 use Rattle.ride.specs.declared.Lines.{Lines}
-use Rattle.ride.specs.declared.trace.Given.{Given}
+use Rattle.std.specs.Prelude.{Result, Ok, Err}
+use Rattle.ride.specs.declared.Wrong.{Wrong}
 use Rattle.ride.specs.Over.{lines_for}
 use Rattle.ride.specs.Says.{says_lines, says_given}
 use Rattle.acceptance.specs.declared.Acceptance.{Acceptance}
@@ -75,10 +76,10 @@ lines_short t (Lines.One a) = omega (arith, one_short t a)
 lines_short t (Lines.Two a b) = omega (arith, one_short t a, one_short (take_one t a) b)
 
 -- What a record gives has 128 bytes at most.
-pub given_short : (t : Taking) (g : Given) → length (take_all t (lines_for 0 (says_given g))).text ≤ length t.text + 128
+pub given_short : (t : Taking) (g : Result Lines Wrong) → length (take_all t (lines_for 0 (says_given g))).text ≤ length t.text + 128
 unfolding take_all take_one take_line
-given_short t (Given.Refused w) = omega (arith, ap length (append-nil t.text))
-given_short t (Given.Lines ls) = lines_short t ls
+given_short t (Err w) = omega (arith, ap length (append-nil t.text))
+given_short t (Ok ls) = lines_short t ls
 
 -- Some lines and then others.
 pub take_on : (t : Taking) (xs ys : List Line) → take_all t (xs ++ ys) ≡ take_all (take_all t xs) ys

@@ -16,7 +16,9 @@ use Rattle.text.proofs.Placing.{placed_none, placed_length, placed_join}
 use Rattle.text.proofs.Standing.{stands}
 use Rattle.ride.specs.declared.Line.{Line}
 use Rattle.ride.specs.declared.Ride.{Ride}
-use Rattle.ride.specs.declared.trace.Given.{Given}
+use Rattle.std.specs.Prelude.{Result}
+use Rattle.ride.specs.declared.Lines.{Lines}
+use Rattle.ride.specs.declared.Wrong.{Wrong}
 use Rattle.ride.specs.Record.{odometer_of}
 use Rattle.ride.specs.Step.{Step, treat}
 use Rattle.ride.specs.At.{record_at}
@@ -74,7 +76,7 @@ module _ (gaps : ℕ → ℕ) (start : Going) (trace out₀ : List ℕ) (now : R
       ∙ ap (λ (k : ℕ). leb (k + 128) (length out₀)) way.ends
 
   -- The next record is taken.
-  pub goes_on : (g : Given) (next : Ride) (w : Written) (out' : List ℕ) → i < length trace / 8 → leb 128 (length out - at) ≡ true
+  pub goes_on : (g : Result Lines Wrong) (next : Ride) (w : Written) (out' : List ℕ) → i < length trace / 8 → leb 128 (length out - at) ≡ true
       → says_given g ≡ (treat now (gaps (odometer_of (record_at trace i))) (record_at trace i)).lines
       → next ≡ (treat now (gaps (odometer_of (record_at trace i))) (record_at trace i)).ride
       → written w out' ≡ writes (take_all (started run troubles) (lines_for 0 (says_given g))) out at

@@ -1,7 +1,7 @@
 -- An acceptance run over a block of records, and the end of its ride: the lines of the ride are
 -- taken, and their text stands at the start of a lent buffer.
 -- Assumes nothing.
-use Rattle.std.specs.Prelude.{ℕ, suc, ◌+◌, ◌%◌, Bool, List, [], ◌∷◌, eqb, leb, length, take}
+use Rattle.std.specs.Prelude.{ℕ, suc, ◌+◌, ◌%◌, Bool, List, [], ◌∷◌, eqb, leb, length, take, Result, Ok, Err}
 use Rattle.words.specs.Answer.{Outcome, gives, refuses, pick}
 use Rattle.text.specs.Put.{placed}
 use Rattle.settings.specs.declared.Store.{Store}
@@ -13,7 +13,7 @@ use Rattle.ride.specs.Record.{odometer_of}
 use Rattle.ride.specs.Step.{Step, treat, End, end}
 use Rattle.ride.specs.Over.{records, lines_for, Ridden, ride_over}
 use Rattle.acceptance_text.specs.declared.Going.{Going}
-use Rattle.acceptance_text.specs.declared.Ending.{Ending}
+use Rattle.acceptance_text.specs.declared.NotEnded.{NotEnded}
 use Rattle.acceptance_text.specs.Taking.{Taking, started, take_all}
 
 -- ---- a block of records
@@ -84,7 +84,7 @@ accept g store trace out =
 
 -- What ending the ride comes to: what was written, where the run stands then, and the buffer then.
 pub record Finish : Type 0 where
-  pub ending : Ending
+  pub ending : Result ℕ NotEnded
   pub going : Going
   pub out : List ℕ
 
@@ -96,8 +96,8 @@ finish g out =
     let t : Taking = take_all (began g) last.lines in
     pick (leb 128 (length out))
     (record {
-      ending = Ending.Wrote (length t.text);
+      ending = Ok (length t.text);
       going = record { ride = last.ride; run = t.run; troubles = t.troubles };
       out = placed t.text out 0;
     })
-    (record { ending = Ending.NoRoom; going = g; out = out })
+    (record { ending = Err NotEnded.NoRoom; going = g; out = out })

@@ -5,13 +5,12 @@
 -- (`plan refused 27: entries out of order or too near`). The words do not change with the counts.
 -- Entries are counted from 1.
 -- Assumes nothing.
-use Rattle.std.specs.Prelude.{ℕ, ◌+◌, Bool, ◌&&◌, List, ◌++◌, eqb, ltb}
+use Rattle.std.specs.Prelude.{ℕ, ◌+◌, Bool, ◌&&◌, List, ◌++◌, eqb, ltb, Option, Some, None}
 use Prim.Native.String.{String}
 use Rattle.words.specs.Answer.{pick}
 use Rattle.text.specs.Text.{codes, decimal}
 use Rattle.group_rows.specs.declared.Kind.{Kind}
 use Rattle.ride_text.specs.Text.{kind_word}
-use Rattle.acceptance.specs.declared.Met.{Met}
 use Rattle.acceptance.specs.declared.Entry.{Entry}
 use Rattle.acceptance.specs.declared.Role.{Role}
 use Rattle.acceptance.specs.declared.Sums.{Sums}
@@ -30,9 +29,9 @@ unfoldable pub group_line : ℕ → Kind → Role → List ℕ
 group_line place kind part = decimal place ++ kind_word kind ++ part_words part
 
 -- Whether an entry was met, and where.
-unfoldable pub met_words : Met → List ℕ
-met_words Met.Absent = codes " absent\n"
-met_words (Met.At place) = codes " met at " ++ decimal place ++ codes "\n"
+unfoldable pub met_words : Option ℕ → List ℕ
+met_words None = codes " absent\n"
+met_words (Some place) = codes " met at " ++ decimal place ++ codes "\n"
 
 -- The line of the entry with this index.
 unfoldable pub entry_line : ℕ → Entry → List ℕ

@@ -1,19 +1,19 @@
 -- What each case of this crate's answers says.
 -- Assumes nothing.
-use Rattle.std.specs.Prelude.{ℕ, List}
+use Rattle.std.specs.Prelude.{ℕ, List, Result, Ok, Err}
 use Rattle.words.specs.Answer.{Outcome, gives, refuses}
-use Rattle.settings.specs.Says.{says_bad}
-use Rattle.acceptance_text.specs.declared.Progress.{Progress}
+use Rattle.ride.specs.declared.TraceRefused.{TraceRefused}
+use Rattle.ride.specs.Says.{says_trace_refused}
+use Rattle.ride_text.specs.declared.Took.{Took}
 use Rattle.acceptance_text.specs.declared.Advanced.{Advanced}
 use Rattle.acceptance_text.specs.declared.Finished.{Finished}
 use Rattle.acceptance_text.specs.Accept.{Taken, Advance, Finish}
 
 -- What was taken; settings that are refused have their own number; "trace length not a multiple of
 -- 8" is 16.
-abbrev pub says_progress : Progress → Outcome Taken
-says_progress (Progress.Took records bytes) = gives (record { records = records; bytes = bytes })
-says_progress (Progress.Settings bad) = refuses (says_bad bad)
-says_progress Progress.Length = refuses 16
+abbrev pub says_progress : Result Took TraceRefused → Outcome Taken
+says_progress (Ok took) = gives (record { records = took.records; bytes = took.bytes })
+says_progress (Err refused) = refuses (says_trace_refused refused)
 
 -- A block: what was taken, where the run stands, and the buffer then.
 abbrev pub says_advanced : Advanced → List ℕ → Advance

@@ -19,8 +19,9 @@ mod records;
 mod taking;
 
 use acceptance::{Acceptance, Entry, Sums};
-use ride::Ride;
-use settings::{Asked, Bad, Store};
+use ride::{Ride, TraceRefused};
+use ride_text::Took;
+use settings::Store;
 pub use taking::Troubles;
 
 // An acceptance run on its way: the state of the ride, the run over the plan, and what went wrong
@@ -32,35 +33,24 @@ pub struct Going {
     pub troubles: Troubles,
 }
 
-// How far a block was taken: so many records, and so many bytes of lines written; or why none is:
-// for the settings (their number) or the block's length (16).
-#[derive(Clone, Copy)]
-pub enum Progress {
-    Took { records: usize, bytes: usize },
-    Settings(Bad),
-    Length,
-}
-
-// What taking a block answers: where the run stands after it, and how far it was taken.
+// What taking a block answers: where the run stands after it, and how far it was taken, or why not.
 #[derive(Clone, Copy)]
 pub struct Advanced {
     pub going: Going,
-    pub progress: Progress,
+    pub progress: Result<Took, TraceRefused>,
 }
 
-// What the end of the ride wrote: so many bytes; or that there is no room for its lines, and the
-// ride has not ended.
-#[derive(Clone, Copy)]
-pub enum Ending {
-    Wrote(usize),
+// Why a ride has not ended: there is no room for its lines.
+#[derive(Clone, Copy, PartialEq, Eq)]
+pub enum NotEnded {
     NoRoom,
 }
 
-// What ending the ride answers: where the run stands then, and what was written.
+// What ending the ride answers: where the run stands then, and how many bytes were written.
 #[derive(Clone, Copy)]
 pub struct Finished {
     pub going: Going,
-    pub ending: Ending,
+    pub ending: Result<usize, NotEnded>,
 }
 
 // The records of a block taken in turn, as many as surely have room for their lines in out, each
@@ -72,15 +62,15 @@ pub fn accept(going: Going, store: Store, trace: &[u8], out: &mut [u8]) -> Advan
 {
     let asked = settings::at(store, 0);
     match asked {
-        Asked::Refused(bad) => Advanced {
+        Err(bad) => Advanced {
             going,
-            progress: Progress::Settings(bad),
+            progress: Err(TraceRefused::Settings(bad)),
         },
-        Asked::InForce(held) => {
+        Ok(held) => {
             if trace.len() % 8 != 0 {
                 return Advanced {
                     going,
-                    progress: Progress::Length,
+                    progress: Err(TraceRefused::Length),
                 };
             }
             records::over(going, store, held, trace, out)
@@ -96,7 +86,7 @@ pub fn finish(going: Going, out: &mut [u8]) -> Finished
     if out.len() < 128 {
         return Finished {
             going,
-            ending: Ending::NoRoom,
+            ending: Err(NotEnded::NoRoom),
         };
     }
     let before = going.ride;
@@ -114,7 +104,7 @@ pub fn finish(going: Going, out: &mut [u8]) -> Finished
             run: then,
             troubles: wrong,
         },
-        ending: Ending::Wrote(took.next),
+        ending: Ok(took.next),
     }
 }
 

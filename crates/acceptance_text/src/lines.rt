@@ -4,7 +4,7 @@ ghost use Rattle.text.specs.Text.{codes, decimal};
 ghost use Rattle.text.specs.Put.{put, came};
 ghost use Rattle.acceptance_text.specs.Lines.{part_words, group_line, met_words, entry_line, sum_line, trouble_line, verdict, refused_line};
 
-use acceptance::{Entry, Met, Role, Sums, one_more};
+use acceptance::{Entry, Role, Sums, one_more};
 use group_rows::Kind;
 use refusals::put_refused;
 use ride_text::put_kind;
@@ -36,13 +36,13 @@ pub fn spell_group(place: u64, kind: Kind, part: Role, buf: &mut [u8], at: usize
 }
 
 // Whether an entry was met, and where.
-fn spell_met(met: Met, buf: &mut [u8], at: usize) -> usize
+fn spell_met(met: Option<u64>, buf: &mut [u8], at: usize) -> usize
     requires { at + length (met_words met) ≤ length buf.old }
     ensures { came result buf.new ≡ put (met_words met) buf.old at }
 {
     match met {
-        Met::Absent => put(b" absent\n", buf, at),
-        Met::At(place) => {
+        None => put(b" absent\n", buf, at),
+        Some(place) => {
             let a = put_number(b" met at ", place, buf, at);
             put(b"\n", buf, a)
         }

@@ -9,8 +9,9 @@ ghost use Rattle.acceptance_text.specs.Accept.{accept_taken};
 ghost use Rattle.acceptance_text.specs.Says.{says_advanced};
 
 use crate::taking::{is_quiet, take_given};
-use crate::{Advanced, Going, Progress};
+use crate::{Advanced, Going};
 use ride::Reply;
+use ride_text::Took;
 use settings::{Held, Store};
 
 // The records in turn, up to the last, while there is room for the lines of one more. What is held
@@ -27,6 +28,7 @@ pub fn over(from: Going, store: Store, first: Held, trace: &[u8], out: &mut [u8]
     let mut held = first;
     let mut i: usize = 0;
     let mut at: usize = 0;
+    // Stays as it is: a for is no plainer, since the index at the end is the count that is answered.
     while (i < count) & (out.len() - at >= 128) {
         held = ride::held_at(store, held, trace, i);
         let treated = ride::treat_at(now, held.gap, trace, i);
@@ -49,9 +51,9 @@ pub fn over(from: Going, store: Store, first: Held, trace: &[u8], out: &mut [u8]
             run,
             troubles,
         },
-        progress: Progress::Took {
+        progress: Ok(Took {
             records: i,
             bytes: at,
-        },
+        }),
     }
 }

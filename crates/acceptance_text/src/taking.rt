@@ -10,7 +10,7 @@ ghost use Rattle.acceptance_text.specs.Inside.{is_quiet, written, writes};
 
 use crate::lines::spell_group;
 use acceptance::{Acceptance, Role, one_more};
-use ride::{Given, Line, Lines};
+use ride::{Line, Lines, Wrong};
 
 // What went wrong on a ride, counted: how many faults, and how many refused records. The largest
 // number of 64 bits stands for that many or more.
@@ -124,12 +124,12 @@ fn is_none(lines: Lines) -> bool
 }
 
 // Whether a record changes nothing of the run: it was accepted, and gave no line.
-pub fn is_quiet(given: Given) -> bool
+pub fn is_quiet(given: Result<Lines, Wrong>) -> bool
     ensures { result ≡ is_quiet (says_given given) }
 {
     match given {
-        Given::Refused(_) => false,
-        Given::Lines(lines) => is_none(lines),
+        Err(_) => false,
+        Ok(lines) => is_none(lines),
     }
 }
 
@@ -137,7 +137,7 @@ pub fn is_quiet(given: Given) -> bool
 pub fn take_given(
     run: Acceptance,
     troubles: Troubles,
-    given: Given,
+    given: Result<Lines, Wrong>,
     buf: &mut [u8],
     at: usize,
 ) -> Written
@@ -145,7 +145,7 @@ pub fn take_given(
     ensures { written result buf.new ≡ writes (take_all (started run troubles) (lines_for 0 (says_given given))) buf.old at }
 {
     match given {
-        Given::Refused(_) => Written {
+        Err(_) => Written {
             run,
             troubles: Troubles {
                 faults: troubles.faults,
@@ -153,6 +153,6 @@ pub fn take_given(
             },
             next: at,
         },
-        Given::Lines(lines) => take_lines(run, troubles, lines, buf, at),
+        Ok(lines) => take_lines(run, troubles, lines, buf, at),
     }
 }

@@ -15,7 +15,7 @@ ghost use Rattle.audibility.specs.Says.{says_sound};
 mod lines;
 mod sixteen;
 
-use telegram::Spelt;
+use telegram::{NotSpelt, Spelt};
 
 // Whether a balise can be heard: audible, or broken; or why there is none, 2, 3 or 4.
 #[derive(Clone, Copy)]
@@ -32,11 +32,10 @@ pub enum Sound {
 pub fn sound_of(x: u8, y: u16, z: u8, s: u8, t: u8) -> Sound
     ensures { says_sound result ≡ sound_of x y z s t }
 {
-    let spelt = telegram::spell(x, y, z);
-    match spelt {
-        Spelt::Words { x: a, y: b, z: c } => sixteen::sound(a, b, c, s, t),
-        Spelt::TooLarge => Sound::TooLarge,
-        Spelt::Fifteen => Sound::Fifteen,
+    match telegram::spell(x, y, z) {
+        Ok(Spelt { x: a, y: b, z: c }) => sixteen::sound(a, b, c, s, t),
+        Err(NotSpelt::TooLarge) => Sound::TooLarge,
+        Err(NotSpelt::Fifteen) => Sound::Fifteen,
     }
 }
 

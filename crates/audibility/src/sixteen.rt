@@ -6,7 +6,6 @@ ghost use Rattle.audibility.specs.Sound.{some, sound_with};
 ghost use Rattle.audibility.specs.Says.{says_sound};
 
 use crate::Sound;
-use telegram::Pair;
 
 // Bit i of the buffer.
 fn bit(buf: &[u8], i: usize) -> u8
@@ -22,10 +21,8 @@ fn zeroes_from(buf: &[u8], i: usize) -> u8
     ensures { result ≡ zeroes_in buf.now i 16 }
 {
     let mut zeroes: u8 = 0;
-    let mut n: usize = 0;
-    while n < 16 {
+    for n in 0..16 {
         zeroes += 1 - bit(buf, i + n);
-        n += 1;
     }
     zeroes
 }
@@ -35,13 +32,10 @@ fn some_few(buf: &[u8]) -> bool
     requires { 80 ≤ 8 * length buf.now }
     ensures { result ≡ some (λ j. ltb (zeroes_in buf.now j 16) fewest) 64 }
 {
-    let mut n: usize = 64;
-    while 0 < n {
-        let last = n - 1;
-        if zeroes_from(buf, last) < 5 {
+    for n in (0..64).rev() {
+        if zeroes_from(buf, n) < 5 {
             return true;
         }
-        n = last;
     }
     false
 }
@@ -51,7 +45,7 @@ fn some_few(buf: &[u8]) -> bool
 pub fn sound(x: u8, y: u8, z: u8, s: u8, t: u8) -> Sound
     ensures { says_sound result ≡ sound_with s t record { x = x; y = y; z = z } }
 {
-    let Pair::Good = telegram::good_pair(s, t) else {
+    let Ok(()) = telegram::good_pair(s, t) else {
         return Sound::NotSeven;
     };
     let line = [s, x, y, z, t, x, y, z, s, x];

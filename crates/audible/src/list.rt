@@ -58,10 +58,8 @@ fn add_figures(
 // All telegrams of three figures.
 fn figures(rt: &impl System, s: u8, t: u8, buf: &mut [u8]) -> ListedSoFar {
     let mut listed = ListedSoFar { at: 0, count: 0 };
-    let mut n: u16 = 0;
-    while n < 4096 {
+    for n in 0..4096u16 {
         listed = add_figures(rt, n, s, t, buf, listed);
-        n += 1;
     }
     listed
 }
@@ -69,10 +67,8 @@ fn figures(rt: &impl System, s: u8, t: u8, buf: &mut [u8]) -> ListedSoFar {
 // All numbers, after what stands in the buffer.
 fn numbers(rt: &impl System, s: u8, t: u8, buf: &mut [u8], at: usize) -> ListedSoFar {
     let mut listed = ListedSoFar { at, count: 0 };
-    let mut n: u16 = 0;
-    while n < 2048 {
+    for n in 0..2048u16 {
         listed = add(rt, 12, n, 0, s, t, buf, listed);
-        n += 1;
     }
     listed
 }

@@ -9,18 +9,15 @@
 mod list;
 mod out;
 
-use console::PairAsked;
-use telegram::Pair;
-
 fn main(rt: HostRuntime) {
     if console::argument_count(&rt) != 3 {
         console::usage(&rt, b"audible", b"audible S S*");
         return;
     }
-    let PairAsked::Is(s, t) = console::sync_pair(&rt, b"audible", 1) else {
+    let Ok((s, t)) = console::sync_pair(&rt, b"audible", 1) else {
         return;
     };
-    let Pair::Good = telegram::good_pair(s, t) else {
+    let Ok(()) = telegram::good_pair(s, t) else {
         console::refuse_here(&rt, b"audible", 4);
         return;
     };

@@ -1,8 +1,7 @@
 // What the arguments ask for.
 ghost use Rattle.std.specs.Prelude.{◌≤◌};
 
-use console::{FigureAsked, PairAsked, System};
-use figures::Figure;
+use console::{CallWrong, Said, System};
 
 // A balise: its figures, its sync words, the number of telegrams, and the bytes of quiet line
 // around them.
@@ -17,76 +16,38 @@ pub struct BaliseCall {
     pub idle: usize,
 }
 
-// What is asked for; that there are too few or too many arguments; or that one of them is wrong,
-// which was said.
-#[derive(Clone, Copy)]
-pub enum BaliseAsked {
-    For(BaliseCall),
-    Usage,
-    Said,
-}
-
 // Argument k, of this name, as a number up to `most`, which stands for all above it.
-fn figure(rt: &impl System, name: &[u8], k: usize, most: u64) -> FigureAsked {
+fn figure(rt: &impl System, name: &[u8], k: usize, most: u64) -> Result<u64, Said> {
     console::figure(rt, b"balise", name, k, most)
 }
 
-// A figure of one byte, of two and of four: the largest stands for all above it, and is refused as
-// they are.
-fn one_byte(n: u64) -> u8 {
-    if n > 255 {
-        return 255;
-    }
-    n as u8
-}
-
-fn two_bytes(n: u64) -> u16 {
-    if n > 65535 {
-        return 65535;
-    }
-    n as u16
-}
-
-fn four_bytes(n: u64) -> u32 {
-    if n > 4294967295 {
-        return 4294967295;
-    }
-    n as u32
-}
-
 // The bytes of quiet line, argument k if there is one: 0 to 65,535.
-fn idle(rt: &impl System, k: usize) -> FigureAsked {
+fn idle(rt: &impl System, k: usize) -> Result<u64, Said> {
     if console::argument_count(rt) <= k {
-        return FigureAsked::Is(0);
+        return Ok(0);
     }
-    let asked = console::number(rt, k, 65535);
-    let Figure::Number(n) = asked else {
+    let Ok(n) = console::number(rt, k, 65535) else {
         console::wrong(rt, b"balise", b"IDLE", b"figure up to 65,535", k);
-        return FigureAsked::Said;
+        return Err(Said);
     };
-    FigureAsked::Is(n)
+    Ok(n)
 }
 
-// The call with these figures, its sync words from argument k on.
-fn with_figures(rt: &impl System, x: u64, y: u64, z: u64, k: usize) -> BaliseAsked
+// The call with these figures, its sync words from argument k on. Of a figure of one byte, of two or
+// of four the largest stands for all above it, and is refused as they are.
+fn with_figures(rt: &impl System, x: u64, y: u64, z: u64, k: usize) -> Result<BaliseCall, CallWrong>
     requires { k ≤ 4 }
 {
-    let PairAsked::Is(s, t) = console::sync_pair(rt, b"balise", k) else {
-        return BaliseAsked::Said;
-    };
-    let FigureAsked::Is(n) = figure(rt, b"N", k + 2, 4294967295) else {
-        return BaliseAsked::Said;
-    };
-    let FigureAsked::Is(idle) = idle(rt, k + 3) else {
-        return BaliseAsked::Said;
-    };
-    BaliseAsked::For(BaliseCall {
-        x: one_byte(x),
-        y: two_bytes(y),
-        z: one_byte(z),
+    let (s, t) = console::sync_pair(rt, b"balise", k)?;
+    let n = figure(rt, b"N", k + 2, 4294967295)?;
+    let idle = idle(rt, k + 3)?;
+    Ok(BaliseCall {
+        x: u8::try_from(x).unwrap_or(u8::MAX),
+        y: u16::try_from(y).unwrap_or(u16::MAX),
+        z: u8::try_from(z).unwrap_or(u8::MAX),
         s,
         t,
-        n: four_bytes(n),
+        n: u32::try_from(n).unwrap_or(u32::MAX),
         idle: idle as usize,
     })
 }
@@ -100,35 +61,29 @@ fn are_there(words: usize, fewest: usize) -> bool {
 }
 
 // A call with three figures.
-fn by_figures(rt: &impl System, x: u64, y: u64) -> BaliseAsked {
+fn by_figures(rt: &impl System, x: u64, y: u64) -> Result<BaliseCall, CallWrong> {
     if !are_there(console::argument_count(rt), 7) {
-        return BaliseAsked::Usage;
+        return Err(CallWrong::Usage);
     }
-    let FigureAsked::Is(z) = figure(rt, b"Z", 3, 255) else {
-        return BaliseAsked::Said;
-    };
+    let z = figure(rt, b"Z", 3, 255)?;
     with_figures(rt, x, y, z, 4)
 }
 
 // A call with 12 and a number.
-fn by_number(rt: &impl System, number: u64) -> BaliseAsked {
+fn by_number(rt: &impl System, number: u64) -> Result<BaliseCall, CallWrong> {
     if !are_there(console::argument_count(rt), 6) {
-        return BaliseAsked::Usage;
+        return Err(CallWrong::Usage);
     }
     with_figures(rt, 12, number, 0, 3)
 }
 
 // The whole call: three figures, or 12 and a number.
-pub fn arguments(rt: &impl System) -> BaliseAsked {
+pub fn arguments(rt: &impl System) -> Result<BaliseCall, CallWrong> {
     if console::argument_count(rt) < 6 {
-        return BaliseAsked::Usage;
+        return Err(CallWrong::Usage);
     }
-    let FigureAsked::Is(x) = figure(rt, b"X", 1, 255) else {
-        return BaliseAsked::Said;
-    };
-    let FigureAsked::Is(y) = figure(rt, b"Y", 2, 65535) else {
-        return BaliseAsked::Said;
-    };
+    let x = figure(rt, b"X", 1, 255)?;
+    let y = figure(rt, b"Y", 2, 65535)?;
     if x == 12 {
         return by_number(rt, y);
     }

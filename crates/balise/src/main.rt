@@ -9,9 +9,9 @@ ghost use Rattle.std.specs.Prelude.{◌≡◌, length};
 
 mod asked;
 
-use asked::{BaliseAsked, BaliseCall};
+use asked::BaliseCall;
 use balise_writer::Written;
-use console::{Stream, System};
+use console::{CallWrong, Stream, System};
 
 // 65,535 bytes of ones.
 fn ones() -> [u8; 65535]
@@ -63,12 +63,12 @@ fn answer(rt: &impl System, call: BaliseCall) {
 
 fn main(rt: HostRuntime) {
     match asked::arguments(&rt) {
-        BaliseAsked::For(call) => answer(&rt, call),
-        BaliseAsked::Usage => console::usage(
+        Ok(call) => answer(&rt, call),
+        Err(CallWrong::Usage) => console::usage(
             &rt,
             b"balise",
             b"balise X Y Z S S* N [IDLE], or balise 12 NUMBER S S* N [IDLE]",
         ),
-        BaliseAsked::Said => {}
+        Err(CallWrong::Said) => {}
     }
 }

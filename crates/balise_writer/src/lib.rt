@@ -12,7 +12,7 @@ ghost use Rattle.balise_writer.specs.Says.{says_written};
 
 mod filling;
 
-use telegram::Spelt;
+use telegram::{NotSpelt, Spelt};
 
 // What writing a test balise answers: so many bytes written, or why none.
 #[derive(Clone, Copy)]
@@ -31,10 +31,9 @@ pub enum Written {
 pub fn write(x: u8, y: u16, z: u8, s: u8, t: u8, n: u32, out: &mut [u8]) -> Written
     ensures { says_written result out.new ≡ write x y z s t n out.old }
 {
-    let spelt = telegram::spell(x, y, z);
-    match spelt {
-        Spelt::Words { x: a, y: b, z: c } => filling::write_words(a, b, c, s, t, n, out),
-        Spelt::TooLarge => Written::TooLarge,
-        Spelt::Fifteen => Written::Fifteen,
+    match telegram::spell(x, y, z) {
+        Ok(Spelt { x: a, y: b, z: c }) => filling::write_words(a, b, c, s, t, n, out),
+        Err(NotSpelt::TooLarge) => Written::TooLarge,
+        Err(NotSpelt::Fifteen) => Written::Fifteen,
     }
 }

@@ -37,12 +37,10 @@ fn put_at(rt: &impl System, figure: usize, word: u16, first: usize) -> bool {
 // The words, by figure, eight to a line, each without so many of its first digits; as far as they
 // can be written.
 pub fn put(rt: &impl System, words: &[u16], first: usize) -> bool {
-    let mut figure = 0;
-    while figure < words.len() {
-        if !put_at(rt, figure, words[figure], first) {
+    for (figure, word) in words.iter().enumerate() {
+        if !put_at(rt, figure, *word, first) {
             return false;
         }
-        figure += 1;
     }
     true
 }

@@ -10,14 +10,10 @@ mod hex;
 mod listing;
 
 use console::System;
-use words::ShortWritten;
 
 // The word of a figure in the short code.
 fn short_word(figure: u8) -> u16 {
-    match words::write_short(figure) {
-        ShortWritten::Word(word) => word as u16,
-        ShortWritten::TooLarge => 0,
-    }
+    words::write_short(figure).map_or(0, |word| word as u16)
 }
 
 // The words of the short code, by figure.

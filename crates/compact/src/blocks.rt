@@ -1,10 +1,8 @@
 // The records of the cards, block by block: in through `compact_block`, what is kept out to
 // standard output.
-ghost use Rattle.std.specs.Prelude.{◌≤◌, length};
-
 use crate::counts;
-use compaction::{Size, Waiting};
-use console::{Goes, Stream, System};
+use compaction::Waiting;
+use console::{PassFailed, Stream, System};
 use settings::Store;
 
 // Where the trace stands: what waits, how many records came and how many were kept, and whether all
@@ -24,7 +22,7 @@ fn write_block(rt: &impl System, from: KeptSoFar, store: Store, block: &mut [u8]
     let done = compaction::compact_block(waiting, store, block);
     let then = done.waiting;
     let size = done.size;
-    let Size::Bytes(bytes) = size else {
+    let Ok(bytes) = size else {
         return KeptSoFar {
             waiting: then,
             records,
@@ -39,19 +37,6 @@ fn write_block(rt: &impl System, from: KeptSoFar, store: Store, block: &mut [u8]
         kept: counts::more(from.kept, bytes / 8),
         is_good,
     }
-}
-
-// The same for the front of a buffer, so many bytes long.
-fn write_front(
-    rt: &impl System,
-    from: KeptSoFar,
-    store: Store,
-    block: &mut [u8],
-    read: usize,
-) -> KeptSoFar
-    requires { read ≤ length block.old }
-{
-    write_block(rt, from, store, &mut block[..read])
 }
 
 // Writes the last record, which waits for none, and says the counts.
@@ -74,18 +59,8 @@ fn cannot_write(rt: &impl System) {
     console::cannot_write(rt, b"compact");
 }
 
-// What comes after the last block: the last record and the counts, or what failed.
-fn finish(rt: &impl System, how: Goes, stand: KeptSoFar) {
-    let Goes::End = how else {
-        console::say_goes(rt, b"compact", how);
-        return;
-    };
-    write_last(rt, stand);
-}
-
-// The compacted trace of all records of the cards, whose lengths were kept, as one ride. A proved
-// loop has to end, and nothing says that a file does: so it counts its turns down from a number
-// that no run uses up.
+// The compacted trace of all records of the cards, whose lengths were kept, as one ride; or what
+// failed.
 pub fn write_cards(
     rt: &impl System,
     store: Store,
@@ -104,22 +79,13 @@ pub fn write_cards(
         kept: 0,
         is_good: true,
     };
-    let mut pass = console::begin(first);
-    let mut turns = u64::MAX;
-    while turns > 0 {
-        let got = console::next_block(rt, pass, lengths, block);
-        let read = got.read;
-        stand = write_front(rt, stand, store, block, read);
-        if !stand.is_good {
-            cannot_write(rt);
-            return;
-        }
-        let how = got.how;
-        let Goes::More = how else {
-            finish(rt, how, stand);
-            return;
-        };
-        pass = got.pass;
-        turns -= 1;
+    let went = console::over_cards(rt, first, lengths, block, |records| {
+        stand = write_block(rt, stand, store, records);
+        stand.is_good
+    });
+    match went {
+        Ok(()) => write_last(rt, stand),
+        Err(PassFailed::NotTaken) => cannot_write(rt),
+        Err(failed) => console::say_goes(rt, b"compact", Err(failed)),
     }
 }

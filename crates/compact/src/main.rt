@@ -10,7 +10,7 @@
 mod blocks;
 mod counts;
 
-use console::{Cards, OptionsWent, System};
+use console::{CallWrong, NoCards, System};
 use settings::Store;
 
 // How it is called.
@@ -24,25 +24,24 @@ fn go_over(rt: &impl System, store: Store, first: usize) {
     let mut lengths = [0u64; 8192];
     let mut block = [0u8; 65536];
     match console::find_cards(rt, b"compact", first, &mut lengths, &mut block) {
-        Cards::Whole => {
+        Ok(()) => {
             if !console::to_terminal(rt, b"compact") {
                 blocks::write_cards(rt, store, first, &lengths, &mut block);
             }
         }
-        Cards::BadLength => console::refuse(rt, b"compact", 16),
-        Cards::NoCard => usage(rt),
-        Cards::Said => {}
+        Err(NoCards::BadLength) => console::refuse(rt, b"compact", 16),
+        Err(NoCards::NoCard) => usage(rt),
+        Err(NoCards::Said) => {}
     }
 }
 
 fn main(rt: HostRuntime) {
-    let options = console::options(&rt, b"compact", true);
-    let store = options.store;
-    let how = options.how;
-    match how {
-        OptionsWent::Plain => go_over(&rt, store, options.first),
-        OptionsWent::Settings => go_over(&rt, store, options.first),
-        OptionsWent::Usage => usage(&rt),
-        OptionsWent::Said => {}
+    match console::options(&rt, b"compact", true) {
+        Ok(asked) => {
+            let store = asked.store;
+            go_over(&rt, store, asked.first);
+        }
+        Err(CallWrong::Usage) => usage(&rt),
+        Err(CallWrong::Said) => {}
     }
 }

@@ -4,11 +4,10 @@
 use Prim.Native.Nat.{ℕ}
 use mathlib.Core.Path.{◌≡◌, refl, sym, ap, ◌∙◌}
 use mathlib.Core.List.{List}
-use lib.Dec.{eqb}
-use Rattle.words.specs.Answer.{Outcome, gives, refuses, pick}
-use Rattle.settings.specs.declared.Bad.{Bad}
-use Rattle.settings.proofs.Determined.{bad_of}
-use Rattle.compaction.specs.declared.Size.{Size}
+use Rattle.words.specs.Answer.{Outcome, gives, refuses}
+use Rattle.ride.specs.declared.TraceRefused.{TraceRefused}
+use Rattle.ride.proofs.Determined.{trace_refused_of, trace_refused_back}
+use Rattle.std.specs.Prelude.{Result, Ok, Err}
 use Rattle.compaction.specs.declared.Compacted.{Compacted}
 use Rattle.compaction.specs.declared.Block.{Block}
 use Rattle.compaction.specs.Compact.{Compaction, Settling}
@@ -20,30 +19,25 @@ use Rattle.compaction.proofs.compact_block.Reads as block_reads
 use Rattle.words.proofs.Told.{FixedWith}
 
 -- From what an answer says, the answer.
-abbrev pub size_of : Outcome ℕ → Size
-size_of (gives n) = Size.Bytes n
-size_of (refuses n) = pick (eqb n 16) Size.Length (Size.Settings (bad_of n))
+abbrev pub size_of : Outcome ℕ → Result ℕ TraceRefused
+size_of (gives n) = Ok n
+size_of (refuses n) = Err (trace_refused_of n)
 
-pub size_back : (s : Size) → size_of (says_size s) ≡ s
-size_back (Size.Bytes n) = refl
-size_back (Size.Settings Bad.Pair) = refl
-size_back (Size.Settings Bad.Gap) = refl
-size_back (Size.Settings Bad.TooHigh) = refl
-size_back (Size.Settings Bad.NotAbove) = refl
-size_back (Size.Settings Bad.Full) = refl
-size_back Size.Length = refl
+pub size_back : (s : Result ℕ TraceRefused) → size_of (says_size s) ≡ s
+size_back (Ok n) = refl
+size_back (Err r) = ap Err (trace_refused_back r)
 
 abbrev pub compacted_of : Compaction → Compacted
 compacted_of c = record { ride = c.ride; size = size_of c.answer }
 
 pub compacted_back : (r : Compacted) (b : List ℕ) → compacted_of (says_compacted r b) ≡ r
-compacted_back r b = ap (λ (s : Size). record { ride = r.ride; size = s }) (size_back r.size)
+compacted_back r b = ap (λ (s : Result ℕ TraceRefused). record { ride = r.ride; size = s }) (size_back r.size)
 
 abbrev pub block_of : Settling → Block
 block_of s = record { waiting = s.waiting; size = size_of s.answer }
 
 pub block_back : (r : Block) (b : List ℕ) → block_of (says_block r b) ≡ r
-block_back r b = ap (λ (s : Size). record { waiting = r.waiting; size = s }) (size_back r.size)
+block_back r b = ap (λ (s : Result ℕ TraceRefused). record { waiting = r.waiting; size = s }) (size_back r.size)
 
 -- two compactions that say the same are the same
 pub same_compaction : (r r' : Compacted) (b b' : List ℕ) → says_compacted r b ≡ says_compacted r' b' → (r ≡ r') × (b ≡ b')

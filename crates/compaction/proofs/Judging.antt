@@ -10,7 +10,7 @@ use Rattle.words.specs.Answer.{gives, refuses}
 use Rattle.settings.specs.declared.Store.{Store}
 use Rattle.settings.specs.declared.Held.{Held}
 use Rattle.settings.specs.declared.Bad.{Bad}
-use Rattle.settings.specs.declared.Asked.{Asked}
+use Rattle.std.specs.Prelude.{Result, Ok, Err}
 use Rattle.settings.specs.Versions.{kept}
 use Rattle.settings.specs.Store.{judged}
 use Rattle.settings.specs.At.{held_at, gap_at, asked}
@@ -24,11 +24,11 @@ use Rattle.compaction.specs.Inside.{Over}
 -- ---- what decides
 
 -- What the store answered for place 0: it is good, and the version is the one in force there.
-pub in_force_law : (store : Store) (r : Asked) (held : Held) → r ≡ Asked.InForce held → says_asked r ≡ asked store 0 → (judged store ≡ gives kept) × (held ≡ held_at store 0)
+pub in_force_law : (store : Store) (r : Result Held Bad) (held : Held) → r ≡ Ok held → says_asked r ≡ asked store 0 → (judged store ≡ gives kept) × (held ≡ held_at store 0)
 in_force_law store r held is says = let given = held_given store 0 held (sym says ∙ ap says_asked is) in (given.0, given.2)
 
 -- .. or the number of its own refusal.
-pub refused_with : (store : Store) (r : Asked) (bad : Bad) → r ≡ Asked.Refused bad → says_asked r ≡ asked store 0 → judged store ≡ refuses (says_bad bad)
+pub refused_with : (store : Store) (r : Result Held Bad) (bad : Bad) → r ≡ Err bad → says_asked r ≡ asked store 0 → judged store ≡ refuses (says_bad bad)
 refused_with store r bad is says = store_refused store (says_bad bad) (sym says ∙ ap says_asked is)
 
 pub compact_refused : (ride : Ride) (store : Store) (trace : List ℕ) (n : ℕ) → judged store ≡ refuses n → untouched ride trace n ≡ compact ride store trace

@@ -15,7 +15,8 @@ use Rattle.ride.specs.Record.{odometer_of}
 use Rattle.ride.specs.Step.{Step, treat}
 use Rattle.ride.specs.Over.{records, ride_over}
 use Rattle.ride.proofs.Cutting.{records_length}
-use Rattle.compaction.specs.declared.Size.{Size}
+use Rattle.ride.specs.declared.TraceRefused.{TraceRefused}
+use Rattle.std.specs.Prelude.{Result, Ok, Err}
 use Rattle.compaction.specs.declared.Waiting.{Waiting}
 use Rattle.compaction.specs.Dropped.{compact_over}
 use Rattle.compaction.specs.Blocks.{waiting_record, kept_over, waits_after}
@@ -27,18 +28,18 @@ use Rattle.compaction.proofs.Blocks.{whole, state, eights, room}
 
 -- The record that waits, put after the bytes that are kept: the state, the length and the buffer
 -- then.
-pub record Finished (gaps : ℕ → ℕ) (w : Waiting) (at : ℕ) (before : List ℕ) (ride : Ride) (size : Size) (after : List ℕ) : Type 0 where
+pub record Finished (gaps : ℕ → ℕ) (w : Waiting) (at : ℕ) (before : List ℕ) (ride : Ride) (size : Result ℕ TraceRefused) (after : List ℕ) : Type 0 where
   pub ride_is : ride ≡ (ride_over gaps w.ride 1 (waiting_record w)).ride
-  pub size_is : size ≡ Size.Bytes (at + length (bytes_of (waiting_record w)))
+  pub size_is : size ≡ Ok (at + length (bytes_of (waiting_record w)))
   pub buffer_is : after ≡ placed (bytes_of (waiting_record w)) before at
 
-pub finish_none : (gaps : ℕ → ℕ) (w : Waiting) (at : ℕ) (b : List ℕ) → w.waits ≡ false → Finished gaps w at b w.ride (Size.Bytes at) b
+pub finish_none : (gaps : ℕ → ℕ) (w : Waiting) (at : ℕ) (b : List ℕ) → w.waits ≡ false → Finished gaps w at b w.ride (Ok at) b
 unfolding ride_over
 finish_none gaps w at b e = record { ride_is = rw e; size_is = rw (e, add-zero); buffer_is = rw e (sym (placed_none b at)) }
 
 pub finish_one : (gaps : ℕ → ℕ) (w : Waiting) (at : ℕ) (b : List ℕ) (ride : Ride) (after : List ℕ) → w.waits ≡ true → length w.bytes ≡ 8
     → ride ≡ (treat w.ride (gaps (odometer_of w.bytes)) w.bytes).ride → after ≡ placed w.bytes b at
-    → Finished gaps w at b ride (Size.Bytes (at + 8)) after
+    → Finished gaps w at b ride (Ok (at + 8)) after
 unfolding ride_over
 finish_one gaps w at b ride after e eight s p = record {
   ride_is = rw e s;
@@ -53,7 +54,7 @@ unfolding ride_over
 served true gaps gap ride r s = ap (λ (t : Step). t.ride) (s.treats ride)
 served false gaps gap ride r s = refl
 
-pub finished_so : (gaps : ℕ → ℕ) (gap : ℕ) (w : Waiting) (at : ℕ) (before : List ℕ) (ride : Ride) (size : Size) (after : List ℕ) → Serves gaps gap w.bytes
+pub finished_so : (gaps : ℕ → ℕ) (gap : ℕ) (w : Waiting) (at : ℕ) (before : List ℕ) (ride : Ride) (size : Result ℕ TraceRefused) (after : List ℕ) → Serves gaps gap w.bytes
     → Finished (λ odometer. gap) w at before ride size after → Finished gaps w at before ride size after
 finished_so gaps gap w at before ride size after s f =
     record { ride_is = f.ride_is ∙ served w.waits gaps gap w.ride w.bytes s; size_is = f.size_is; buffer_is = f.buffer_is }
@@ -70,7 +71,7 @@ module _ (gaps : ℕ → ℕ) (ride : Ride) (b : List ℕ) (trace : List ℕ) wh
       let fits : length trace / 8 * 8 ≤ length trace = omega arith in
       omega (arith, room gaps ride b (records trace) (eights n trace fits) (ap (λ (v : Waiting). v.waits) (sym e) ∙ h), records_length n trace)
 
-  pub is_whole : (w : Waiting) (at : ℕ) (mid after : List ℕ) (end : Ride) (size : Size)
+  pub is_whole : (w : Waiting) (at : ℕ) (mid after : List ℕ) (end : Ride) (size : Result ℕ TraceRefused)
       → w ≡ waits_after gaps w₀ (records trace) → at ≡ length (bytes_of (kept_over gaps w₀ (records trace)))
       → mid ≡ onto (bytes_of (kept_over gaps w₀ (records trace))) trace → Finished gaps w at mid end size after
       → ◌≡◌ {A = Compaction} (record { answer = says_size size; ride = end; buffer = after }) (smaller_trace gaps ride trace)

@@ -1,19 +1,18 @@
 -- The numbers and values of the documents for each case of this crate's answers.
 -- Assumes nothing.
-use Rattle.std.specs.Prelude.{ℕ, List}
+use Rattle.std.specs.Prelude.{ℕ, List, Result, Ok, Err}
 use Rattle.words.specs.Answer.{Outcome, gives, refuses}
-use Rattle.settings.specs.Says.{says_bad}
-use Rattle.compaction.specs.declared.Size.{Size}
+use Rattle.ride.specs.declared.TraceRefused.{TraceRefused}
+use Rattle.ride.specs.Says.{says_trace_refused}
 use Rattle.compaction.specs.declared.Compacted.{Compacted}
 use Rattle.compaction.specs.declared.Block.{Block}
 use Rattle.compaction.specs.Compact.{Compaction, Settling}
 
 -- The new length in bytes; the number of the settings' refusal, for a plain gap 19; "trace length
 -- not a multiple of 8" is 16.
-abbrev pub says_size : Size → Outcome ℕ
-says_size (Size.Bytes n) = gives n
-says_size (Size.Settings bad) = refuses (says_bad bad)
-says_size Size.Length = refuses 16
+abbrev pub says_size : Result ℕ TraceRefused → Outcome ℕ
+says_size (Ok n) = gives n
+says_size (Err refused) = refuses (says_trace_refused refused)
 
 -- The answer, the state after the trace, and the lent buffer then.
 abbrev pub says_compacted : Compacted → List ℕ → Compaction

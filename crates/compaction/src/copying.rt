@@ -25,9 +25,5 @@ pub fn put_eight(bytes: [u8; 8], trace: &mut [u8], at: usize)
     ensures bytes_len { length bytes ≡ 8 }
     ensures trace_after { trace.new ≡ placed bytes trace.old at }
 {
-    let mut i = 0;
-    while i < 8 {
-        trace[at + i] = bytes[i];
-        i += 1;
-    }
+    trace[at..at + 8].copy_from_slice(&bytes);
 }

@@ -10,7 +10,7 @@ ghost use Rattle.words.specs.Answer.{gives};
 ghost use Rattle.compaction.specs.Dropped.{is_quiet, is_accepted};
 ghost use Rattle.compaction.specs.Inside.{quiet_reply};
 
-use ride::{Checked, Given, Lines, Reply, Ride, Treated};
+use ride::{Checked, Lines, Reply, Ride, Treated, Wrong};
 use settings::{Held, Store};
 
 // Whether there is no line.
@@ -25,12 +25,12 @@ fn is_none(lines: Lines) -> bool
 }
 
 // Whether a record was accepted and gave no line,
-fn is_given_none(given: Given) -> bool
+fn is_given_none(given: Result<Lines, Wrong>) -> bool
     ensures { result ≡ is_quiet (says_given given) }
 {
     match given {
-        Given::Lines(lines) => is_none(lines),
-        Given::Refused(_) => false,
+        Ok(lines) => is_none(lines),
+        Err(_) => false,
     }
 }
 
@@ -46,13 +46,10 @@ fn is_quiet(reply: Reply) -> bool
 }
 
 // Whether a record is accepted.
-fn is_accepted(checked: Checked) -> bool
+fn is_accepted(checked: Result<Checked, Wrong>) -> bool
     ensures { result ≡ is_accepted (says_checked checked) }
 {
-    match checked {
-        Checked::Accepted(_, _) => true,
-        Checked::Refused(_) => false,
-    }
+    checked.is_ok()
 }
 
 // The settings to hold for the record of these eight bytes.

@@ -15,8 +15,8 @@ mod deciding;
 mod ending;
 mod walking;
 
-use ride::Ride;
-use settings::{Asked, Bad, Store};
+use ride::{Ride, TraceRefused};
+use settings::Store;
 
 // A trace between two blocks: the record that waits for the next one, if one does, and the state
 // before it. At first none waits.
@@ -27,27 +27,20 @@ pub struct Waiting {
     pub waits: bool,
 }
 
-// How many bytes are kept; or why nothing is done: for the settings (their number) or the trace's
-// length (16).
-#[derive(Clone, Copy)]
-pub enum Size {
-    Bytes(usize),
-    Settings(Bad),
-    Length,
-}
-
-// What compacting answers: the state after the trace, and its new length.
+// What compacting answers: the state after the trace, and its new length in bytes; or why nothing
+// is done.
 #[derive(Clone, Copy)]
 pub struct Compacted {
     pub ride: Ride,
-    pub size: Size,
+    pub size: Result<usize, TraceRefused>,
 }
 
-// What a block answers: what waits after it, and how many bytes at its start are kept.
+// What a block answers: what waits after it, and how many bytes at its start are kept; or why
+// nothing is done.
 #[derive(Clone, Copy)]
 pub struct Block {
     pub waiting: Waiting,
-    pub size: Size,
+    pub size: Result<usize, TraceRefused>,
 }
 
 // The trace, in place, without the position records that were accepted, gave no line and have an
@@ -58,15 +51,15 @@ pub fn compact(ride: Ride, store: Store, trace: &mut [u8]) -> Compacted
 {
     let asked = settings::at(store, 0);
     match asked {
-        Asked::Refused(bad) => Compacted {
+        Err(bad) => Compacted {
             ride,
-            size: Size::Settings(bad),
+            size: Err(TraceRefused::Settings(bad)),
         },
-        Asked::InForce(held) => {
+        Ok(held) => {
             if trace.len() % 8 != 0 {
                 return Compacted {
                     ride,
-                    size: Size::Length,
+                    size: Err(TraceRefused::Length),
                 };
             }
             ending::whole(ride, store, held, trace)
@@ -82,22 +75,22 @@ pub fn compact_block(waiting: Waiting, store: Store, block: &mut [u8]) -> Block
 {
     let asked = settings::at(store, 0);
     match asked {
-        Asked::Refused(bad) => Block {
+        Err(bad) => Block {
             waiting,
-            size: Size::Settings(bad),
+            size: Err(TraceRefused::Settings(bad)),
         },
-        Asked::InForce(held) => {
+        Ok(held) => {
             if block.len() % 8 != 0 {
                 return Block {
                     waiting,
-                    size: Size::Length,
+                    size: Err(TraceRefused::Length),
                 };
             }
             let walked = walking::over(waiting, store, held, block);
             let then = walked.waiting;
             Block {
                 waiting: then,
-                size: Size::Bytes(walked.bytes),
+                size: Ok(walked.bytes),
             }
         }
     }

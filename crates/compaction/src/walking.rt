@@ -32,9 +32,8 @@ pub fn over(waiting: Waiting, store: Store, first: Held, block: &mut [u8]) -> Wa
     let mut bytes = waiting.bytes;
     let mut waits = waiting.waits;
     let mut held = held_for(store, first, bytes);
-    let mut i: usize = 0;
     let mut at: usize = 0;
-    while i < count {
+    for i in 0..count {
         let next = eight(block, i * 8);
         if waits {
             let treated = treat(ride, held.gap, bytes);
@@ -48,7 +47,6 @@ pub fn over(waiting: Waiting, store: Store, first: Held, block: &mut [u8]) -> Wa
         held = held_for(store, held, next);
         bytes = next;
         waits = true;
-        i += 1;
     }
     Walked {
         waiting: Waiting { ride, bytes, waits },

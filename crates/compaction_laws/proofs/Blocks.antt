@@ -21,7 +21,8 @@ use Rattle.compaction.specs.Dropped.{compact_over}
 use Rattle.compaction.specs.Blocks.{waiting_record, kept_over, waits_after}
 use Rattle.compaction.specs.Compact.{bytes_of, Settling, settled_block, compact_block}
 use Rattle.compaction.specs.Says.{says_size, says_block}
-use Rattle.compaction.specs.declared.Size.{Size}
+use Rattle.ride.specs.declared.TraceRefused.{TraceRefused}
+use Rattle.std.specs.Prelude.{Result, Ok, Err}
 use Rattle.compaction.specs.declared.Block.{Block}
 use Rattle.compaction.specs.declared.Compacted.{Compacted}
 use Rattle.compaction.specs.declared.Waiting.{Waiting}
@@ -36,7 +37,7 @@ use Rattle.demands.proofs.Beside.TraceCalls.{Gone, gone, on_from, TakesFront, co
 use Rattle.compaction_laws.specs.Blocks.{bytes_in, BlockCall, ByBlocks, written, waits_last, InBlocks}
 use Rattle.compaction_laws.proofs.Trace.{under_made}
 
-in_bytes : (s : Size) (n : ℕ) → says_size s ≡ gives n → bytes_in s ≡ n
+in_bytes : (s : Result ℕ TraceRefused) (n : ℕ) → says_size s ≡ gives n → bytes_in s ≡ n
 in_bytes s n e = ap bytes_in (sym (compaction_is.size_back s) ∙ ap compaction_is.size_of e)
 
 module _ (store : Store) (good : judged store ≡ gives kept) where
@@ -80,7 +81,7 @@ module _ (store : Store) (good : judged store ≡ gives kept) where
   all_blocks = comes (λ c. records_in c.block) (λ c. bytes_in c.answer.size) (λ b. b.waiting) over on (BlockCall store) none takes
 
 whole_so : (store : Store) (w : Waiting) (trace : List ℕ) (calls : List (Call Block)) (c : Compacted) (after : List ℕ) (n : ℕ) → w.waits ≡ false
-    → ByBlocks store w trace calls → CompactIn w.ride store trace c after → c.size ≡ Size.Bytes n
+    → ByBlocks store w trace calls → CompactIn w.ride store trace c after → c.size ≡ Ok n
     → written calls ++ bytes_of (waiting_record (waits_last w calls)) ≡ take n after
 whole_so store w trace calls c after n none b h e =
     let gaps : ℕ → ℕ = gap_at store in

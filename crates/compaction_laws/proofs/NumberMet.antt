@@ -31,7 +31,8 @@ use Rattle.ride.specs.Step.{close_behind, missed_lines, after_missed, go_on, tre
 use Rattle.ride.specs.Over.{first_records, ride_over}
 use Rattle.compaction.specs.Dropped.{is_dropped, compact_over}
 use Rattle.compaction.specs.Compact.{bytes_of, smaller_trace, compact}
-use Rattle.compaction.specs.declared.Size.{Size}
+use Rattle.ride.specs.declared.TraceRefused.{TraceRefused}
+use Rattle.std.specs.Prelude.{Result, Ok, Err}
 use Rattle.compaction.specs.declared.Compacted.{Compacted}
 use Rattle.compaction.proofs.Determined as compaction_is
 use Rattle.demands.specs.Compacting.{CompactIn}
@@ -56,7 +57,7 @@ answered = compaction_is.compacted_of (compact fresh_ride two (bytes_of all))
 abbrev after : List ℕ
 after = (compact fresh_ride two (bytes_of all)).buffer
 
-pub number_compacted : CompactIn fresh_ride two (bytes_of all) answered after × (answered.size ≡ Size.Bytes 40) × (take 40 after ≡ bytes_of small)
+pub number_compacted : CompactIn fresh_ride two (bytes_of all) answered after × (answered.size ≡ Ok 40) × (take 40 after ≡ bytes_of small)
     × (answered.ride.known.number ≡ Number.Figure 1612)
 unfolding read_word is_code even count covers figure onwards is_check exchanged other word short_word long_word telegram fits first fit_row_meant fit_rows how_many fit_in fitting distance signal_speed target_figure route_speed distance_of signal_distance number_of mark_at differing is_good good_pair settings_of follows no_store_meant versions_of opened begin all_follow versions_in_order judged with_one may_add add held_from held_at gap_at balises read_all judge_read judge no_group nothing_known fresh_ride odometer_of passed_of in_order_meant check_record join take_up close leave close_behind missed_lines after_missed go_on treat first_records ride_over is_dropped compact_over smaller_trace compact
 number_compacted = ((([], tt), lent_out (bytes_of all), (fresh_ride, (two, (lent_out after, tt))), refl, refl, refl), refl, refl, refl)

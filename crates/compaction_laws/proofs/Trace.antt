@@ -24,7 +24,8 @@ use Rattle.compaction.specs.Dropped.{compact_over}
 use Rattle.compaction.specs.Smaller.{KeptOf}
 use Rattle.compaction.specs.Compact.{bytes_of, Compaction, smaller_trace, compact}
 use Rattle.compaction.specs.Says.{says_size, says_compacted}
-use Rattle.compaction.specs.declared.Size.{Size}
+use Rattle.ride.specs.declared.TraceRefused.{TraceRefused}
+use Rattle.std.specs.Prelude.{Result, Ok, Err}
 use Rattle.compaction.specs.declared.Compacted.{Compacted}
 use Rattle.compaction.proofs.Trace.{new_whole, compacted_again}
 use Rattle.compaction.proofs.Judging.{compact_whole}
@@ -39,8 +40,8 @@ use Rattle.compaction_laws.proofs.Missing.{left_is}
 -- ---- from the contracts
 
 -- what is said of an answer of n bytes
-said : (c : Compacted) (after : List ℕ) (n : ℕ) → c.size ≡ Size.Bytes n → says_compacted c after ≡ record { answer = gives n; ride = c.ride; buffer = after }
-said c after n e = ap (λ (s : Size). record { answer = says_size s; ride = c.ride; buffer = after }) e
+said : (c : Compacted) (after : List ℕ) (n : ℕ) → c.size ≡ Ok n → says_compacted c after ≡ record { answer = gives n; ride = c.ride; buffer = after }
+said c after n e = ap (λ (s : Result ℕ TraceRefused). record { answer = says_size s; ride = c.ride; buffer = after }) e
 
 compacted_is : (ride : Ride) (store : Store) (before : List ℕ) (c : Compacted) (after : List ℕ) → CompactIn ride store before c after
     → says_compacted c after ≡ compact ride store before
@@ -53,7 +54,7 @@ pub record Under (ride : Ride) (store : Store) (before : List ℕ) (c : Compacte
   pub was : Was (gap_at store) ride before (compact ride store before)
   pub made : Made (gap_at store) ride before n c.ride after
 
-pub under_made : (ride : Ride) (store : Store) (before : List ℕ) (c : Compacted) (after : List ℕ) (n : ℕ) → CompactIn ride store before c after → c.size ≡ Size.Bytes n
+pub under_made : (ride : Ride) (store : Store) (before : List ℕ) (c : Compacted) (after : List ℕ) (n : ℕ) → CompactIn ride store before c after → c.size ≡ Ok n
     → Under ride store before c after n
 under_made ride store before c after n h e =
     let is = sym (said c after n e) ∙ compacted_is ride store before c after h in
@@ -90,7 +91,7 @@ same_run gaps ride before n end after made p q first second =
 -- ---- once more
 
 -- the compaction of what was made
-again : (gaps : ℕ → ℕ) (ride : Ride) (before : List ℕ) (c : Compacted) (after : List ℕ) (n : ℕ) → c.size ≡ Size.Bytes n → Made gaps ride before n c.ride after
+again : (gaps : ℕ → ℕ) (ride : Ride) (before : List ℕ) (c : Compacted) (after : List ℕ) (n : ℕ) → c.size ≡ Ok n → Made gaps ride before n c.ride after
     → smaller_trace gaps ride (take n after) ≡ says_compacted c (take n after)
 again gaps ride before c after n e made =
     let bytes : List ℕ = bytes_of (compact_over gaps ride (records before)) in

@@ -26,7 +26,8 @@ use Rattle.ride.specs.Says.{says_stepped}
 use Rattle.ride.proofs.Determined as ride_is
 use Rattle.compaction.specs.Dropped.{is_dropped, compact_over}
 use Rattle.compaction.specs.Compact.{bytes_of, smaller_trace, compact}
-use Rattle.compaction.specs.declared.Size.{Size}
+use Rattle.ride.specs.declared.TraceRefused.{TraceRefused}
+use Rattle.std.specs.Prelude.{Result, Ok, Err}
 use Rattle.compaction.specs.declared.Compacted.{Compacted}
 use Rattle.compaction.proofs.Determined as compaction_is
 use Rattle.demands.specs.ByContract.{RunOver}
@@ -80,7 +81,7 @@ answered = compaction_is.compacted_of (compact fresh_ride two (bytes_of all))
 abbrev pub after : List ℕ
 after = (compact fresh_ride two (bytes_of all)).buffer
 
-pub compact_met : CompactIn fresh_ride two (bytes_of all) answered after × (answered.size ≡ Size.Bytes 56) × (take 56 after ≡ bytes_of small)
+pub compact_met : CompactIn fresh_ride two (bytes_of all) answered after × (answered.size ≡ Ok 56) × (take 56 after ≡ bytes_of small)
 unfolding differing is_good good_pair settings_of follows no_store_meant versions_of opened begin all_follow versions_in_order judged with_one may_add add held_from held_at gap_at balises read_all judge_read judge no_group nothing_known fresh_ride odometer_of passed_of in_order_meant check_record join take_up close leave close_behind missed_lines after_missed go_on treat first_records ride_over is_dropped compact_over smaller_trace compact
 compact_met = ((([], tt), lent_out (bytes_of all), (fresh_ride, (two, (lent_out after, tt))), refl, refl, refl), refl, refl)
 

@@ -6,7 +6,8 @@ use Rattle.std.specs.Prelude.{ℕ, ◌≡◌, false, List, ◌++◌, take}
 use Rattle.settings.specs.declared.Store.{Store}
 use Rattle.compaction.specs.Blocks.{waiting_record}
 use Rattle.compaction.specs.Compact.{bytes_of}
-use Rattle.compaction.specs.declared.Size.{Size}
+use Rattle.ride.specs.declared.TraceRefused.{TraceRefused}
+use Rattle.std.specs.Prelude.{Result, Ok, Err}
 use Rattle.compaction.specs.declared.Block.{Block}
 use Rattle.compaction.specs.declared.Compacted.{Compacted}
 use Rattle.compaction.specs.declared.Waiting.{Waiting}
@@ -15,10 +16,9 @@ use Rattle.demands.specs.Output.{records_in}
 use Rattle.demands.specs.TraceCalls.{Call, ByCalls, texts_of, last_of}
 
 -- How many bytes a call keeps; a refused one none.
-abbrev pub bytes_in : Size → ℕ
-bytes_in (Size.Bytes n) = n
-bytes_in (Size.Settings bad) = 0
-bytes_in Size.Length = 0
+abbrev pub bytes_in : Result ℕ TraceRefused → ℕ
+bytes_in (Ok n) = n
+bytes_in (Err refused) = 0
 
 -- The contract of `compact_block` allows the call, under a store, after what waits: it settles the
 -- block in the buffer that holds it.
@@ -41,5 +41,5 @@ waits_last w calls = last_of (λ b. b.waiting) w calls
 -- record are those bytes.
 pub record InBlocks : Type 0 where
   pub whole : (store : Store) (w : Waiting) (trace : List ℕ) (calls : List (Call Block)) (c : Compacted) (after : List ℕ) (n : ℕ) → w.waits ≡ false
-      → ByBlocks store w trace calls → CompactIn w.ride store trace c after → c.size ≡ Size.Bytes n
+      → ByBlocks store w trace calls → CompactIn w.ride store trace c after → c.size ≡ Ok n
       → written calls ++ bytes_of (waiting_record (waits_last w calls)) ≡ take n after

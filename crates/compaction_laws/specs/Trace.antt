@@ -18,7 +18,8 @@ use Rattle.ride.specs.declared.Ran.{Ran}
 use Rattle.ride.specs.declared.Stepped.{Stepped}
 use Rattle.compaction.specs.Dropped.{is_quiet}
 use Rattle.compaction.specs.Smaller.{without_refused, refusals, Agree, KeptOf}
-use Rattle.compaction.specs.declared.Size.{Size}
+use Rattle.ride.specs.declared.TraceRefused.{TraceRefused}
+use Rattle.std.specs.Prelude.{Result, Ok, Err}
 use Rattle.compaction.specs.declared.Compacted.{Compacted}
 use Rattle.demands.specs.ByContract.{RunOver}
 use Rattle.demands.specs.Compacting.{CompactIn}
@@ -34,7 +35,7 @@ pub record Compacting : Type 0 where
   pub after : List ℕ
   pub n : ℕ
   pub called : CompactIn ride store before answer after
-  pub size : answer.size ≡ Size.Bytes n
+  pub size : answer.size ≡ Ok n
 
 -- The compacted trace: the first n bytes of the lent buffer.
 abbrev pub small_of : Compacting → List ℕ

@@ -1,7 +1,9 @@
 // Arguments as figures and words. One that is missing, or longer than 4,096 bytes, is none.
+ghost use Rattle.std.specs.Prelude.{◌≡◌};
+
 use crate::saying::wrong;
 use crate::system::System;
-use figures::{Byte, Figure};
+use figures::NotFigure;
 use std::env::FillError;
 
 // Whether there is an argument k; 0 is the program's name.
@@ -29,51 +31,61 @@ pub fn argument_count(rt: &impl System) -> usize {
 }
 
 // Argument k as a number of which `most` is the largest asked for.
-pub fn number(rt: &impl System, k: usize, most: u64) -> Figure {
+pub fn number(rt: &impl System, k: usize, most: u64) -> Result<u64, NotFigure> {
     let mut text = [0u8; 4096];
     let Ok(length) = rt.arg(k, &mut text) else {
-        return Figure::Odd;
+        return Err(NotFigure::Odd);
     };
     figures::decimal(&text[..length], most)
 }
 
-// An argument as a number, where the largest asked for stands for all above it; or none, which was
+// That an argument is none of what was asked for, which was said.
+#[derive(Clone, Copy, PartialEq, Eq)]
+pub struct Said;
+
+// Why the arguments are no call: the program says its usage; or one of them is wrong, which was
 // said.
-#[derive(Clone, Copy)]
-pub enum FigureAsked {
-    Is(u64),
-    Said,
-}
-
-// Argument k, of this name, as a number up to `most`; where it is none that is said.
-pub fn figure(rt: &impl System, program: &[u8], name: &[u8], k: usize, most: u64) -> FigureAsked {
-    match number(rt, k, most) {
-        Figure::Number(n) => FigureAsked::Is(n),
-        Figure::Above => FigureAsked::Is(most),
-        Figure::Odd => {
-            wrong(rt, program, name, b"figure", k);
-            FigureAsked::Said
-        }
-    }
-}
-
-// An argument as a number in a range; one out of it; or none, which was said.
-#[derive(Clone, Copy)]
-pub enum NumberAsked {
-    Is(u32),
+#[derive(Clone, Copy, PartialEq, Eq)]
+pub enum CallWrong {
     Usage,
     Said,
 }
 
+impl From<Said> for CallWrong {
+    ghost use Rattle.console.specs.declared.arguments.CallWrong.{CallWrong};
+
+    ghost from_gives = { λ _ e. e ≡ CallWrong.Said };
+
+    fn from(_said: Said) -> CallWrong {
+        CallWrong::Said
+    }
+}
+
+// Argument k, of this name, as a number up to `most`, which stands for all above it; where it is
+// none that is said.
+pub fn figure(
+    rt: &impl System,
+    program: &[u8],
+    name: &[u8],
+    k: usize,
+    most: u64,
+) -> Result<u64, Said> {
+    match number(rt, k, most) {
+        Ok(n) => Ok(n),
+        Err(NotFigure::Above) => Ok(most),
+        Err(NotFigure::Odd) => {
+            wrong(rt, program, name, b"figure", k);
+            Err(Said)
+        }
+    }
+}
+
 // A number from `least` to `most`.
-fn in_range(n: u64, least: u32, most: u32) -> NumberAsked {
-    if n > most as u64 {
-        return NumberAsked::Usage;
+fn in_range(n: u64, least: u32, most: u32) -> Result<u32, CallWrong> {
+    if (n > most as u64) | (n < least as u64) {
+        return Err(CallWrong::Usage);
     }
-    if n < least as u64 {
-        return NumberAsked::Usage;
-    }
-    NumberAsked::Is(n as u32)
+    Ok(n as u32)
 }
 
 // Argument k, of this name, as a number from `least` to `most`; where it is none that is said.
@@ -84,52 +96,42 @@ pub fn number_in(
     k: usize,
     least: u32,
     most: u32,
-) -> NumberAsked {
+) -> Result<u32, CallWrong> {
     match number(rt, k, most as u64) {
-        Figure::Number(n) => in_range(n, least, most),
-        Figure::Above => NumberAsked::Usage,
-        Figure::Odd => {
+        Ok(n) => in_range(n, least, most),
+        Err(NotFigure::Above) => Err(CallWrong::Usage),
+        Err(NotFigure::Odd) => {
             wrong(rt, program, name, b"figure", k);
-            NumberAsked::Said
+            Err(CallWrong::Said)
         }
     }
 }
 
 // Argument k as a word of two hex digits.
-fn word(rt: &impl System, k: usize) -> Byte {
+fn word(rt: &impl System, k: usize) -> Option<u8> {
     let mut text = [0u8; 4096];
     let Ok(length) = rt.arg(k, &mut text) else {
-        return Byte::Odd;
+        return None;
     };
     figures::hex(&text[..length])
 }
 
 // Argument k, a sync word of this name; where it is none that is said.
-fn sync_word(rt: &impl System, program: &[u8], name: &[u8], k: usize) -> Byte {
-    let asked = word(rt, k);
-    let Byte::Is(_) = asked else {
-        wrong(rt, program, name, b"word of two hex digits", k);
-        return asked;
-    };
-    asked
+fn sync_word(rt: &impl System, program: &[u8], name: &[u8], k: usize) -> Result<u8, Said> {
+    match word(rt, k) {
+        Some(byte) => Ok(byte),
+        None => {
+            wrong(rt, program, name, b"word of two hex digits", k);
+            Err(Said)
+        }
+    }
 }
 
-// Two arguments as sync words; or that one is none, which was said.
-#[derive(Clone, Copy)]
-pub enum PairAsked {
-    Is(u8, u8),
-    Said,
-}
-
-// Argument k as S and the one after it as S*.
-pub fn sync_pair(rt: &impl System, program: &[u8], k: usize) -> PairAsked {
-    let Byte::Is(s) = sync_word(rt, program, b"S", k) else {
-        return PairAsked::Said;
-    };
-    let Byte::Is(t) = sync_word(rt, program, b"S*", std::num::wrapping_add_usize(k, 1)) else {
-        return PairAsked::Said;
-    };
-    PairAsked::Is(s, t)
+// Argument k as S and the one after it as S*; where one is no sync word that is said.
+pub fn sync_pair(rt: &impl System, program: &[u8], k: usize) -> Result<(u8, u8), Said> {
+    let s = sync_word(rt, program, b"S", k)?;
+    let t = sync_word(rt, program, b"S*", std::num::wrapping_add_usize(k, 1))?;
+    Ok((s, t))
 }
 
 // Whether argument k is `-`: standard input.

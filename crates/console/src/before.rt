@@ -1,10 +1,9 @@
 // What the arguments ask for before the cards, for the programs that ride: `-s SETTINGS`, from one
 // argument on.
-ghost use Rattle.std.specs.Prelude.{◌≡◌, ◌+◌, length};
-ghost use Rattle.settings.specs.Store.{no_store_meant};
+ghost use Rattle.std.specs.Prelude.{◌≡◌, length, IfOk};
 ghost use Rattle.console.specs.Asked.{cards_from, Ridden};
 
-use crate::arguments::{argument_count, is_option};
+use crate::arguments::{CallWrong, Said, argument_count, is_option};
 use crate::lengths::open_card;
 use crate::reading::fill;
 use crate::saying::{begin_line, cannot_write};
@@ -13,26 +12,24 @@ use crate::streams::{Stream, write};
 use crate::system::{Source, System};
 use crate::telling::{cannot_open, cannot_read};
 use settings::Store;
-use settings_text::{Condition, no_store};
+use settings_text::Condition;
 
 // The gap of a program that is given no settings, in dm.
 const GAP: u32 = 40;
 
-// How asking for the settings went.
-#[derive(Clone, Copy)]
-pub enum OptionsWent {
+// Which store is ridden under: that of the gap alone, or that of the settings that were named.
+#[derive(Clone, Copy, PartialEq, Eq)]
+pub enum StoreOf {
     Plain,
     Settings,
-    Usage,
-    Said,
 }
 
-// What the arguments ask for: the settings, the first argument after them, and how it went.
+// What the arguments ask for: the store, whose it is, and the first argument after the settings.
 #[derive(Clone, Copy)]
 pub struct AskedFor {
     pub store: Store,
     pub first: usize,
-    pub how: OptionsWent,
+    pub of: StoreOf,
 }
 
 // Room for the longest text of settings, and one byte more, which tells a longer one.
@@ -79,78 +76,84 @@ fn is_too_long(how: Condition) -> bool {
     }
 }
 
-// Nothing is ridden.
-fn none(at: u8, how: OptionsWent) -> AskedFor
-    ensures { (result.how ≡ how) × (result.first ≡ at + 2) × (result.store ≡ no_store_meant) }
-{
-    AskedFor {
-        store: no_store(),
-        first: at as usize + 2,
-        how,
-    }
-}
-
 // What a text of settings comes to; where it is bad that is said.
-fn judged(rt: &impl System, program: &[u8], aside: bool, at: u8, text: &[u8]) -> AskedFor
-    ensures { (result.first ≡ cards_from at result.how) × Ridden result.how result.store }
+fn judged(
+    rt: &impl System,
+    program: &[u8],
+    aside: bool,
+    at: u8,
+    text: &[u8],
+) -> Result<AskedFor, Said>
+    ensures { IfOk result (λ asked. (asked.first ≡ cards_from at asked.of) × Ridden asked.of asked.store) }
 {
     let sheet = settings_text::read(text);
     let store = sheet.store;
     let line = sheet.line;
     let how = sheet.how;
     if settings_text::is_fine(how) {
-        return AskedFor {
+        return Ok(AskedFor {
             store,
             first: at as usize + 2,
-            how: OptionsWent::Settings,
-        };
+            of: StoreOf::Settings,
+        });
     }
     tell_of(rt, program, aside, line, how);
-    none(at, OptionsWent::Said)
+    Err(Said)
 }
 
 // The settings of the open file, or what is said of it.
-fn from_file(rt: &impl System, program: &[u8], aside: bool, at: u8, file: &mut Source) -> AskedFor
-    ensures { (result.first ≡ cards_from at result.how) × Ridden result.how result.store }
+fn from_file(
+    rt: &impl System,
+    program: &[u8],
+    aside: bool,
+    at: u8,
+    file: &mut Source,
+) -> Result<AskedFor, Said>
+    ensures { IfOk result (λ asked. (asked.first ≡ cards_from at asked.of) × Ridden asked.of asked.store) }
 {
     let mut text = room();
     let got = fill(rt, file, &mut text);
     let count = got.count;
     if got.failed {
         cannot_read(rt, program, at as usize + 1);
-        return none(at, OptionsWent::Said);
+        return Err(Said);
     }
     judged(rt, program, aside, at, &text[..count])
 }
 
 // What the arguments ask for before the cards, from this one on, where another option stands before
 // them.
-pub fn options_at(rt: &impl System, program: &[u8], aside: bool, at: u8) -> AskedFor
-    ensures { (result.first ≡ cards_from at result.how) × Ridden result.how result.store }
+pub fn options_at(
+    rt: &impl System,
+    program: &[u8],
+    aside: bool,
+    at: u8,
+) -> Result<AskedFor, CallWrong>
+    ensures { IfOk result (λ asked. (asked.first ≡ cards_from at asked.of) × Ridden asked.of asked.store) }
 {
     if !is_option(rt, at as usize, b's') {
         let begun = settings::begin(GAP, 0x00, 0x7F);
         let store = begun.store;
-        return AskedFor {
+        return Ok(AskedFor {
             store,
             first: at as usize,
-            how: OptionsWent::Plain,
-        };
+            of: StoreOf::Plain,
+        });
     }
     let file = at as usize + 1;
     if argument_count(rt) <= file {
-        return none(at, OptionsWent::Usage);
+        return Err(CallWrong::Usage);
     }
     let Some(mut opened) = open_card(rt, file) else {
         cannot_open(rt, program, file);
-        return none(at, OptionsWent::Said);
+        return Err(CallWrong::Said);
     };
-    from_file(rt, program, aside, at, &mut opened)
+    Ok(from_file(rt, program, aside, at, &mut opened)?)
 }
 
 // What the arguments ask for before the cards.
-pub fn options(rt: &impl System, program: &[u8], aside: bool) -> AskedFor
-    ensures { (result.first ≡ cards_from 1 result.how) × Ridden result.how result.store }
+pub fn options(rt: &impl System, program: &[u8], aside: bool) -> Result<AskedFor, CallWrong>
+    ensures { IfOk result (λ asked. (asked.first ≡ cards_from 1 asked.of) × Ridden asked.of asked.store) }
 {
     options_at(rt, program, aside, 1)
 }

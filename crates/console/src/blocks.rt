@@ -2,6 +2,7 @@
 ghost use Rattle.std.specs.Prelude.{◌≡◌, ◌%◌, ◌≤◌, length};
 ghost use Rattle.console.specs.Pass.{pass_from};
 
+use crate::goes::{Goes, PassFailed};
 use crate::lengths::{named, open_card};
 use crate::progress::{Far, go_on, not_begun, wipe};
 use crate::reading::fill;
@@ -19,24 +20,13 @@ pub struct Pass {
     far: Far,
 }
 
-// How a pass goes on: more may come; all cards were read; the card of this argument cannot be
-// opened any more, or a read of it failed; or the lent block has no room for a record.
-#[derive(Clone, Copy)]
-pub enum Goes {
-    More,
-    End,
-    CannotOpen(usize),
-    CannotRead(usize),
-    NoRoom,
-}
-
 // What a block leaves: the pass, how many bytes of whole records stand at the start of the block,
 // and how it goes on.
 #[derive(Drop)]
 pub struct CardBlock {
     pub pass: Pass,
     pub read: usize,
-    pub how: Goes,
+    pub how: Result<Goes, PassFailed>,
 }
 
 // A pass over the cards from this argument on.
@@ -59,9 +49,9 @@ fn with_card(rt: &impl System, pass: Pass, begun: usize, number: usize, bytes: u
 {
     let file = open_card(rt, number);
     let how = if file.is_none() {
-        Goes::CannotOpen(number)
+        Err(PassFailed::CannotOpen(number))
     } else {
-        Goes::More
+        Ok(Goes::More)
     };
     let far = pass.far;
     CardBlock {
@@ -80,7 +70,7 @@ fn with_card(rt: &impl System, pass: Pass, begun: usize, number: usize, bytes: u
 
 // The pass after so many bytes, with its card closed: it has no further one, or is shorter by now,
 // or a read of it failed.
-fn closed(pass: Pass, read: usize, how: Goes) -> CardBlock
+fn closed(pass: Pass, read: usize, how: Result<Goes, PassFailed>) -> CardBlock
     ensures { result.read ≡ read }
 {
     let far = pass.far;
@@ -114,7 +104,7 @@ fn further(pass: Pass, file: Source, read: usize) -> CardBlock
             far,
         },
         read,
-        how: Goes::More,
+        how: Ok(Goes::More),
     }
 }
 
@@ -134,10 +124,10 @@ fn read_on(
     let read = got.count - got.count % 8;
     if got.failed {
         let number = pass.number;
-        return closed(pass, read, Goes::CannotRead(number));
+        return closed(pass, read, Err(PassFailed::CannotRead(number)));
     }
     if read < want {
-        return closed(pass, read, Goes::More);
+        return closed(pass, read, Ok(Goes::More));
     }
     further(pass, file, read)
 }
@@ -148,11 +138,11 @@ fn next_of_card(rt: &impl System, pass: Pass, file: Source, block: &mut [u8]) ->
 {
     let left = pass.left;
     if left == 0 {
-        return closed(pass, 0, Goes::More);
+        return closed(pass, 0, Ok(Goes::More));
     }
     let room = block.len() - block.len() % 8;
     if room == 0 {
-        return closed(pass, 0, Goes::NoRoom);
+        return closed(pass, 0, Err(PassFailed::NoRoom));
     }
     if left < room as u64 {
         return read_on(rt, pass, file, left as usize, block);
@@ -166,7 +156,7 @@ fn told(rt: &impl System, got: CardBlock, lengths: &[u64]) -> CardBlock
 {
     let CardBlock { pass, read, how } = got;
     let before = pass.far;
-    let Goes::More = how else {
+    let Ok(Goes::More) = how else {
         wipe(rt, before);
         return CardBlock { pass, read, how };
     };
@@ -195,7 +185,7 @@ fn next_card(rt: &impl System, pass: Pass, lengths: &[u64]) -> CardBlock
         return CardBlock {
             pass,
             read: 0,
-            how: Goes::End,
+            how: Ok(Goes::End),
         };
     }
     with_card(rt, pass, begun + 1, first + begun, lengths[begun])

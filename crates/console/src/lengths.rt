@@ -9,12 +9,11 @@ use crate::system::{Source, System};
 use std::fs::File;
 use std::io::{Seek, SeekFrom};
 
-// What going over the cards finds: cards of whole records; no card; more of them than lengths are
-// kept; or the number of the argument whose card cannot be opened, cannot be read, has a length
-// that is no multiple of 8, or cannot be gone over a second time.
-#[derive(Clone, Copy)]
-pub enum CardsFound {
-    Cards,
+// What is wrong with the cards: there is none; there are more of them than lengths are kept; or the
+// number of the argument whose card cannot be opened, cannot be read, has a length that is no
+// multiple of 8, or cannot be gone over a second time.
+#[derive(Clone, Copy, PartialEq, Eq)]
+pub enum CardsWrong {
     NoCard,
     TooMany,
     CannotOpen(usize),
@@ -23,22 +22,11 @@ pub enum CardsFound {
     Once(usize),
 }
 
-// One card: how many bytes it has, whether it could be opened, whether it could be read, and
-// whether it can be gone over again; and how far the work is.
+// One card: how many bytes it has, and whether it can be gone over again.
 #[derive(Clone, Copy)]
 struct Card {
     bytes: u64,
-    is_open: bool,
-    is_read: bool,
     is_again: bool,
-    far: Far,
-}
-
-// What going over comes to, and how far the work is then.
-#[derive(Clone, Copy)]
-struct Gone {
-    found: CardsFound,
-    far: Far,
 }
 
 // Opens the file of this name; none where that cannot be done. A name that is no text in UTF-8 is
@@ -77,27 +65,22 @@ pub fn to_start(from: &mut Source) -> bool {
     }
 }
 
-// Goes over a card for its length.
-fn measure(rt: &impl System, number: usize, block: &mut [u8], far: Far) -> Card {
+// Goes over a card for its length; how far the work is goes on.
+fn measure(
+    rt: &impl System,
+    number: usize,
+    block: &mut [u8],
+    far: &mut Far,
+) -> Result<Card, CardsWrong> {
     let Some(mut file) = open_card(rt, number) else {
-        return Card {
-            bytes: 0,
-            is_open: false,
-            is_read: false,
-            is_again: false,
-            far,
-        };
+        return Err(CardsWrong::CannotOpen(number));
     };
     let length = length_of(rt, &mut file, block, far);
     let is_again = to_start(&mut file);
-    let then = length.far;
-    Card {
-        bytes: length.bytes,
-        is_open: true,
-        is_read: !length.failed,
-        is_again,
-        far: then,
-    }
+    let Some(bytes) = length else {
+        return Err(CardsWrong::CannotRead(number));
+    };
+    Ok(Card { bytes, is_again })
 }
 
 // How many cards are named from this argument on; none where there are more than that many, or than
@@ -120,74 +103,53 @@ pub fn named(rt: &impl System, first: usize, most: usize) -> usize
 }
 
 // Why no card is gone over: none is named, or too many are.
-fn none_named(rt: &impl System, first: usize) -> CardsFound {
+fn none_named(rt: &impl System, first: usize) -> CardsWrong {
     if argument_count(rt) <= first {
-        return CardsFound::NoCard;
+        return CardsWrong::NoCard;
     }
-    CardsFound::TooMany
+    CardsWrong::TooMany
 }
 
-// The number of the first card of which something is so; 0 while there is none.
-fn noted(before: usize, number: usize, is_so: bool) -> usize {
-    if before > 0 {
-        return before;
+// The number of the first card of which something is so, if there is one.
+fn noted(before: Option<usize>, number: usize, is_so: bool) -> Option<usize> {
+    if before.is_none() & is_so {
+        return Some(number);
     }
-    if is_so {
-        return number;
-    }
-    0
+    before
 }
 
 // What cards come to that could all be read.
-fn judged(bad: usize, once: usize) -> CardsFound {
-    if bad > 0 {
-        return CardsFound::BadLength(bad);
+fn judged(bad: Option<usize>, once: Option<usize>) -> Result<(), CardsWrong> {
+    if let Some(number) = bad {
+        return Err(CardsWrong::BadLength(number));
     }
-    if once > 0 {
-        return CardsFound::Once(once);
+    if let Some(number) = once {
+        return Err(CardsWrong::Once(number));
     }
-    CardsFound::Cards
+    Ok(())
 }
 
-// Goes over so many cards for their lengths, and keeps them.
+// Goes over so many cards for their lengths, and keeps them; how far the work is goes on.
 fn go_over_all(
     rt: &impl System,
     first: usize,
     count: usize,
     lengths: &mut [u64],
     block: &mut [u8],
-) -> Gone
+    far: &mut Far,
+) -> Result<(), CardsWrong>
     requires { (count ≤ length lengths.old) × (first + count ≤ 18446744073709551615) × (count ≤ 1000000) }
 {
-    let mut far = not_begun();
-    let mut bad: usize = 0;
-    let mut once: usize = 0;
-    let mut i: usize = 0;
-    while i < count {
+    let mut bad = None;
+    let mut once = None;
+    for i in 0..count {
         let number = first + i;
-        let card = measure(rt, number, block, far);
-        far = card.far;
-        if !card.is_open {
-            return Gone {
-                found: CardsFound::CannotOpen(number),
-                far,
-            };
-        }
-        if !card.is_read {
-            return Gone {
-                found: CardsFound::CannotRead(number),
-                far,
-            };
-        }
+        let card = measure(rt, number, block, far)?;
         bad = noted(bad, number, card.bytes % 8 != 0);
         once = noted(once, number, !card.is_again);
         lengths[i] = card.bytes;
-        i += 1;
     }
-    Gone {
-        found: judged(bad, once),
-        far,
-    }
+    judged(bad, once)
 }
 
 // Goes over all cards for their lengths, and keeps them. One that cannot be opened or read decides
@@ -198,13 +160,13 @@ pub fn go_over(
     first: usize,
     lengths: &mut [u64],
     block: &mut [u8],
-) -> CardsFound {
+) -> Result<(), CardsWrong> {
     let count = named(rt, first, lengths.len());
     if count == 0 {
-        return none_named(rt, first);
+        return Err(none_named(rt, first));
     }
-    let gone = go_over_all(rt, first, count, lengths, block);
-    let far = gone.far;
+    let mut far = not_begun();
+    let found = go_over_all(rt, first, count, lengths, block, &mut far);
     wipe(rt, far);
-    gone.found
+    found
 }

@@ -59,15 +59,10 @@ fn begun(rt: &impl System, far: Far, has_lines: bool) -> Far {
 
 // What stands after the last `/` of a path.
 fn say_last(rt: &impl System, path: &[u8]) {
-    let mut start = path.len();
-    while start > 0 {
-        if path[start - 1] == b'/' {
-            say(rt, &path[start..]);
-            return;
-        }
-        start -= 1;
+    match path.iter().rposition(|byte| *byte == b'/') {
+        Some(at) => say(rt, &path[at + 1..]),
+        None => say(rt, path),
     }
-    say(rt, path);
 }
 
 // The program's name.
@@ -86,13 +81,9 @@ fn say_number(rt: &impl System, n: u64, unit: &[u8]) {
 
 // The sum of some lengths, round 2^64.
 fn sum_of(lengths: &[u64]) -> u64 {
-    let mut sum: u64 = 0;
-    let mut i: usize = 0;
-    while i < lengths.len() {
-        sum = std::num::wrapping_add_u64(sum, lengths[i]);
-        i += 1;
-    }
-    sum
+    lengths
+        .iter()
+        .fold(0, |sum, length| sum.wrapping_add(*length))
 }
 
 // How far it is: in hundredths of all, or in bytes where nobody knows how many there are.

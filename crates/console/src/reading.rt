@@ -7,18 +7,11 @@ use std::io;
 use std::io::Read;
 
 // How many bytes were read, and whether a read failed then.
+// Stays as it is: what may not change (`fill`: what came before a read that failed counts).
 #[derive(Clone, Copy)]
 pub struct Filled {
     pub count: usize,
     pub failed: bool,
-}
-
-// How many bytes a file has, none where a read failed; and how far the work is.
-#[derive(Clone, Copy)]
-pub struct Length {
-    pub bytes: u64,
-    pub failed: bool,
-    pub far: Far,
 }
 
 // One read into buf.
@@ -53,6 +46,7 @@ pub fn fill(rt: &impl System, from: &mut Source, buf: &mut [u8]) -> Filled
 {
     let mut have = 0;
     let mut failed = false;
+    // Stays as it is: the new form is no plainer, a turn goes on by as many bytes as came.
     while have < buf.len() {
         let got = read_some(rt, from, &mut buf[have..]);
         failed = got.failed;
@@ -68,36 +62,26 @@ pub fn fill(rt: &impl System, from: &mut Source, buf: &mut [u8]) -> Filled
     }
 }
 
-// The length of the file from here on, by way of block: block after block up to one that is empty.
-// A proved loop has to end, and nothing says that a file does: so the loop counts its turns down
-// from a number that no run uses up.
-pub fn length_of(rt: &impl System, from: &mut Source, block: &mut [u8], before: Far) -> Length {
-    let mut far = before;
+// The length of the file from here on, if it can be read, by way of block: block after block up to
+// one that is empty; and how far the work is. A proved loop has to end, and nothing says that a file
+// does: so the loop takes no more turns than no run uses up.
+pub fn length_of(
+    rt: &impl System,
+    from: &mut Source,
+    block: &mut [u8],
+    far: &mut Far,
+) -> Option<u64> {
     let mut bytes: u64 = 0;
-    let mut turns = u64::MAX;
-    while turns > 0 {
+    for _ in 0..u64::MAX {
         let got = fill(rt, from, block);
-        let count = got.count as u64;
         if got.failed {
-            break;
+            return None;
         }
-        if count == 0 {
-            return Length {
-                bytes,
-                failed: false,
-                far,
-            };
+        if got.count == 0 {
+            return Some(bytes);
         }
-        if count > u64::MAX - bytes {
-            break;
-        }
-        bytes += count;
-        far = go_on_somehow(rt, far, false, got.count);
-        turns -= 1;
+        bytes = bytes.checked_add(got.count as u64)?;
+        *far = go_on_somehow(rt, *far, false, got.count);
     }
-    Length {
-        bytes: 0,
-        failed: true,
-        far,
-    }
+    None
 }

@@ -1,7 +1,7 @@
 // What a program says of its cards, on standard error.
 use crate::arguments::is_input;
-use crate::blocks::Goes;
-use crate::lengths::{CardsFound, go_over};
+use crate::goes::{Goes, PassFailed};
+use crate::lengths::{CardsWrong, go_over};
 use crate::saying::{fail, fail_of, fail_with};
 use crate::system::System;
 
@@ -34,28 +34,39 @@ pub fn only_once(rt: &impl System, program: &[u8], number: usize) {
     );
 }
 
-// What is wrong with the cards, where document 01 has no words for it. Of no card, and of a bad
-// length, nothing: the one is usage, the other `trace refused 16`.
-pub fn say_found(rt: &impl System, program: &[u8], found: CardsFound) {
+// What is wrong with the cards, where document 01 has no words for it. Of good cards nothing, nor of
+// no card and of a bad length: the one is usage, the other `trace refused 16`.
+pub fn say_found(rt: &impl System, program: &[u8], found: Result<(), CardsWrong>) {
     match found {
-        CardsFound::Cards => {}
-        CardsFound::NoCard => {}
-        CardsFound::TooMany => fail(rt, program, b"too many cards"),
-        CardsFound::CannotOpen(number) => cannot_open(rt, program, number),
-        CardsFound::CannotRead(number) => cannot_read(rt, program, number),
-        CardsFound::BadLength(_) => {}
-        CardsFound::Once(number) => only_once(rt, program, number),
+        Ok(()) => {}
+        Err(CardsWrong::NoCard) => {}
+        Err(CardsWrong::TooMany) => fail(rt, program, b"too many cards"),
+        Err(CardsWrong::CannotOpen(number)) => cannot_open(rt, program, number),
+        Err(CardsWrong::CannotRead(number)) => cannot_read(rt, program, number),
+        Err(CardsWrong::BadLength(_)) => {}
+        Err(CardsWrong::Once(number)) => only_once(rt, program, number),
     }
 }
 
-// What going over the cards comes to for a program: they can be read; one has a bad length; none is
-// named; or it was said what is wrong with them.
-#[derive(Clone, Copy)]
-pub enum Cards {
-    Whole,
+// Why a program goes over no cards: one has a bad length; none is named; or it was said what is
+// wrong with them.
+#[derive(Clone, Copy, PartialEq, Eq)]
+pub enum NoCards {
     BadLength,
     NoCard,
     Said,
+}
+
+// What is left for a program to say of the cards.
+fn left_to_say(wrong: CardsWrong) -> NoCards {
+    match wrong {
+        CardsWrong::NoCard => NoCards::NoCard,
+        CardsWrong::BadLength(_) => NoCards::BadLength,
+        CardsWrong::TooMany => NoCards::Said,
+        CardsWrong::CannotOpen(_) => NoCards::Said,
+        CardsWrong::CannotRead(_) => NoCards::Said,
+        CardsWrong::Once(_) => NoCards::Said,
+    }
 }
 
 // Goes over all cards for their lengths, as `go_over` does, and says what is wrong with them.
@@ -65,27 +76,19 @@ pub fn find_cards(
     first: usize,
     lengths: &mut [u64],
     block: &mut [u8],
-) -> Cards {
+) -> Result<(), NoCards> {
     let found = go_over(rt, first, lengths, block);
     say_found(rt, program, found);
-    match found {
-        CardsFound::Cards => Cards::Whole,
-        CardsFound::NoCard => Cards::NoCard,
-        CardsFound::BadLength(_) => Cards::BadLength,
-        CardsFound::TooMany => Cards::Said,
-        CardsFound::CannotOpen(_) => Cards::Said,
-        CardsFound::CannotRead(_) => Cards::Said,
-        CardsFound::Once(_) => Cards::Said,
-    }
+    found.map_err(left_to_say)
 }
 
-// What ended a pass over the cards before all were read; of one that is over, or goes on, nothing.
-pub fn say_goes(rt: &impl System, program: &[u8], how: Goes) {
+// What ended a pass over the cards; of one that is over, or goes on, nothing.
+pub fn say_goes(rt: &impl System, program: &[u8], how: Result<Goes, PassFailed>) {
     match how {
-        Goes::More => {}
-        Goes::End => {}
-        Goes::CannotOpen(number) => cannot_open(rt, program, number),
-        Goes::CannotRead(number) => cannot_read(rt, program, number),
-        Goes::NoRoom => {}
+        Ok(_) => {}
+        Err(PassFailed::CannotOpen(number)) => cannot_open(rt, program, number),
+        Err(PassFailed::CannotRead(number)) => cannot_read(rt, program, number),
+        Err(PassFailed::NoRoom) => {}
+        Err(PassFailed::NotTaken) => {}
     }
 }

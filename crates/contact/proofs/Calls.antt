@@ -13,8 +13,10 @@ use Rattle.telegram.specs.Stretch.{inside}
 use Rattle.contact.specs.Contacts.{Contacts, contacts_from, Handed, next_contact, from_start, begin}
 use Rattle.contact.specs.Says.{says_next}
 use Rattle.contact.specs.declared.Search.{Search}
-use Rattle.contact.specs.declared.SearchBegun.{SearchBegun}
-use Rattle.contact.specs.declared.Next.{Next}
+use Rattle.std.specs.Prelude.{Option, Result, Ok}
+use Rattle.telegram.specs.declared.Beyond.{Beyond}
+use Rattle.contact.specs.declared.HandedOut.{HandedOut}
+use Rattle.contact.specs.declared.NextRefused.{NextRefused}
 use Rattle.contact.proofs.Law.{Comes, further, ends, refuses_with, Specified, law, only}
 use Rattle.contact.proofs.begin.Kinds as begin_kinds
 use Rattle.contact.proofs.begin.Reads as begin_reads
@@ -22,7 +24,7 @@ use Rattle.contact.proofs.next_contact.Kinds as next_kinds
 use Rattle.contact.proofs.next_contact.Reads as next_reads
 
 -- A call of `begin` with the buffer b and a stretch, which its contract allows to answer r.
-pub record Begins (b : List ℕ) (start len : ℕ) (r : SearchBegun) : Type 0 where
+pub record Begins (b : List ℕ) (start len : ℕ) (r : Result Search Beyond) : Type 0 where
   pub κs : Lfts 1
   pub given : Dens κs begin_kinds.ps
   pub left : AtExit (ended_of 1 begin_kinds.ps begin_kinds.r) κs
@@ -36,7 +38,7 @@ pub record Begins (b : List ℕ) (start len : ℕ) (r : SearchBegun) : Type 0 wh
 pub record Called (b : List ℕ) (s : Search) (o : Outcome Handed) : Type 0 where
   pub κs : Lfts 1
   pub given : Dens κs next_kinds.ps
-  pub answer : Next
+  pub answer : Result (Option HandedOut) NextRefused
   pub left : AtExit (ended_of 1 next_kinds.ps next_kinds.r) κs
   pub search : given.0 ≡ s
   pub buffer : given.1.0.now ≡ b
@@ -66,7 +68,7 @@ begun_start b start len s e = go (inside b start len) e
 
 -- Begun by `begin`, that is the contacts of the whole stretch.
 pub called_from_begin : (b : List ℕ) (start len : ℕ) (s : Search) (w : Contacts)
-    → Begins b start len (SearchBegun.Search s) → Comes (Called b) s w → w ≡ contacts_from b (from_start start len)
+    → Begins b start len (Ok s) → Comes (Called b) s w → w ≡ contacts_from b (from_start start len)
 called_from_begin b start len s w k p =
     let same : begin k.given.0.now k.given.1.0 k.given.1.1.0 ≡ begin b start len = simp (k.buffer, k.first, k.bits) in
     called_on b s w p ∙ ap (contacts_from b) (begun_start b start len s (sym same ∙ sym k.kept))

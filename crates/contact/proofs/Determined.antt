@@ -8,8 +8,10 @@ use Rattle.telegram.proofs.Determined.{told}
 use Rattle.contact.specs.Judge.{Contact, read, marker}
 use Rattle.contact.specs.Says.{says_search_begun, says_next, says_judged, says_judged_under}
 use Rattle.contact.specs.declared.Search.{Search}
-use Rattle.contact.specs.declared.SearchBegun.{SearchBegun}
-use Rattle.contact.specs.declared.Next.{Next}
+use Rattle.std.specs.Prelude.{Option, Some, None, Result, Ok, Err}
+use Rattle.telegram.specs.declared.Beyond.{Beyond}
+use Rattle.contact.specs.declared.HandedOut.{HandedOut}
+use Rattle.contact.specs.declared.NextRefused.{NextRefused}
 use Rattle.contact.specs.declared.Judged.{Judged}
 use Rattle.contact.specs.declared.JudgedUnder.{JudgedUnder}
 use Rattle.settings.specs.declared.Bad.{Bad}
@@ -25,24 +27,24 @@ use Rattle.contact.proofs.judge_under.Reads as judge_under_reads
 use Rattle.words.proofs.Told.{Fixed}
 
 -- From what an answer says, the answer.
-abbrev pub begun_of : Outcome Search → SearchBegun
-begun_of (gives s) = SearchBegun.Search s
-begun_of (refuses n) = SearchBegun.Beyond
+abbrev pub begun_of : Outcome Search → Result Search Beyond
+begun_of (gives s) = Ok s
+begun_of (refuses n) = Err (record {})
 
-pub begun_back : (r : SearchBegun) → begun_of (says_search_begun r) ≡ r
-begun_back (SearchBegun.Search s) = refl
-begun_back SearchBegun.Beyond = refl
+pub begun_back : (r : Result Search Beyond) → begun_of (says_search_begun r) ≡ r
+begun_back (Ok s) = refl
+begun_back (Err e) = refl
 
-abbrev pub next_of : Outcome Handed → Next
-next_of (gives (handed start length then)) = Next.Contact start length then
-next_of (gives no_further) = Next.NoFurther
-next_of (refuses n) = pick (eqb n 9) Next.Cut Next.Beyond
+abbrev pub next_of : Outcome Handed → Result (Option HandedOut) NextRefused
+next_of (gives (handed start length then)) = Ok (Some (record { start = start; length = length; then = then }))
+next_of (gives no_further) = Ok None
+next_of (refuses n) = Err (pick (eqb n 9) NextRefused.Cut NextRefused.Beyond)
 
-pub next_back : (r : Next) → next_of (says_next r) ≡ r
-next_back (Next.Contact start length then) = refl
-next_back Next.NoFurther = refl
-next_back Next.Cut = refl
-next_back Next.Beyond = refl
+pub next_back : (r : Result (Option HandedOut) NextRefused) → next_of (says_next r) ≡ r
+next_back (Ok (Some contact)) = refl
+next_back (Ok None) = refl
+next_back (Err NextRefused.Cut) = refl
+next_back (Err NextRefused.Beyond) = refl
 
 abbrev pub judged_of : Outcome Contact → Judged
 judged_of (gives (read m first count)) = told (λ t. Judged.Read t first count) Judged.Neither m

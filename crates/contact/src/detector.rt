@@ -9,23 +9,29 @@ ghost use Rattle.contact.specs.Contacts.{outside, since, contacts, first};
 ghost use Rattle.contact.specs.Says.{says_next};
 
 use crate::count::{closing, opening};
-use crate::{Next, Search};
+use crate::{HandedOut, NextRefused, Search};
 
 // 2 ^ 48: what is left of a division by it are the lowest 48 bits.
 const TWO_TO_THE_48: u64 = 281474976710656;
 
 // Outside a contact, from bit `from` to bit `end`: the first one that opens, or none.
-pub fn outside(buf: &[u8], from: usize, end: usize, history: u32) -> Next
+pub fn outside(
+    buf: &[u8],
+    from: usize,
+    end: usize,
+    history: u32,
+) -> Result<Option<HandedOut>, NextRefused>
     requires { (from ≤ end) × (history < 65536) }
     ensures { says_next result ≡ first (contacts buf.now outside history from (end - from)) }
 {
     let mut h = history;
     let mut i = from;
+    // Stays as it is: a `for` is no plainer, since a turn passes over up to 48 bits.
     while i < end {
         let w = line(buf, i, h);
         let n = before_first(opening(w));
         if end - i <= n {
-            return Next::NoFurther;
+            return Ok(None);
         }
         if n < 48 {
             h = latest(w, n + 1);
@@ -39,29 +45,35 @@ pub fn outside(buf: &[u8], from: usize, end: usize, history: u32) -> Next
             i += 48;
         }
     }
-    Next::NoFurther
+    Ok(None)
 }
 
 // Inside a contact that the bit `opened` opens: on to the bit that closes it, which is not part of
 // it.
-fn within(buf: &[u8], opened: usize, end: usize, history: u32) -> Next
+fn within(
+    buf: &[u8],
+    opened: usize,
+    end: usize,
+    history: u32,
+) -> Result<Option<HandedOut>, NextRefused>
     requires { (opened < end) × (history < 65536) }
     ensures { says_next result ≡ first (contacts buf.now (since opened) history (opened + 1) (end - (opened + 1))) }
 {
     let mut h = history;
     let mut i = opened + 1;
+    // Stays as it is: a `for` is no plainer, since a turn passes over up to 48 bits.
     while i < end {
         let w = line(buf, i, h);
         let n = before_first(closing(w));
         if end - i <= n {
-            return Next::Cut;
+            return Err(NextRefused::Cut);
         }
         if n < 48 {
             h = latest(w, n + 1);
             i += n;
             let behind = i + 1;
             if zeroes(h) <= 4 {
-                return Next::Contact {
+                return Ok(Some(HandedOut {
                     start: opened,
                     length: i - opened,
                     then: Search {
@@ -69,7 +81,7 @@ fn within(buf: &[u8], opened: usize, end: usize, history: u32) -> Next
                         left: end - behind,
                         history: h as u16,
                     },
-                };
+                }));
             }
             i = behind;
         } else {
@@ -77,7 +89,7 @@ fn within(buf: &[u8], opened: usize, end: usize, history: u32) -> Next
             i += 48;
         }
     }
-    Next::Cut
+    Err(NextRefused::Cut)
 }
 
 // The latest sixteen bits, and after them the 48 of the buffer from bit i on.

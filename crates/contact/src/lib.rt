@@ -19,8 +19,8 @@ mod detector;
 mod marker;
 mod under;
 
-use settings::{Asked, Bad, Store};
-use telegram::{Reach, Surveyed, Telegram};
+use settings::{Bad, Store};
+use telegram::{Beyond, NotAlike, Surveyed, Telegram};
 
 // A search for contacts: the next bit, the bits left, and the latest sixteen bits, of which the
 // newest is the lowest.
@@ -31,23 +31,18 @@ pub struct Search {
     pub history: u16,
 }
 
-// What beginning a search answers.
+// A contact handed out: its first bit, its length, and the search after its closing bit.
 #[derive(Clone, Copy)]
-pub enum SearchBegun {
-    Search(Search),
-    Beyond,
+pub struct HandedOut {
+    pub start: usize,
+    pub length: usize,
+    pub then: Search,
 }
 
-// What asking for the next contact answers: a contact, with the search after its closing bit; that
-// no further one opens; a contact cut by the end of the record; or a stretch beyond the buffer.
-#[derive(Clone, Copy)]
-pub enum Next {
-    Contact {
-        start: usize,
-        length: usize,
-        then: Search,
-    },
-    NoFurther,
+// Why no next contact is answered: it is cut by the end of the record, or the stretch lies beyond
+// the buffer: 9 or 5.
+#[derive(Clone, Copy, PartialEq, Eq)]
+pub enum NextRefused {
     Cut,
     Beyond,
 }
@@ -85,32 +80,30 @@ pub enum JudgedUnder {
 }
 
 // The search over a stretch, with sixteen ones as history; or refusal 5.
-pub fn begin(buf: &[u8], start: usize, len: usize) -> SearchBegun
+pub fn begin(buf: &[u8], start: usize, len: usize) -> Result<Search, Beyond>
     ensures { says_search_begun result ≡ begin buf.now start len }
 {
-    let reach = telegram::inside(buf, start, len);
-    match reach {
-        Reach::Inside => SearchBegun::Search(Search {
+    match telegram::inside(buf, start, len) {
+        Ok(()) => Ok(Search {
             next: start,
             left: len,
             history: 65535,
         }),
-        Reach::Beyond => SearchBegun::Beyond,
+        Err(Beyond) => Err(Beyond),
     }
 }
 
 // The next contact, with the search past its closing bit; or that no further one opens; or refusal
 // 9 if it is cut, 5 if the search's stretch is not taken. Only a contact moves the search.
-pub fn next_contact(search: Search, buf: &[u8]) -> Next
+pub fn next_contact(search: Search, buf: &[u8]) -> Result<Option<HandedOut>, NextRefused>
     ensures { says_next result ≡ next_contact buf.now search }
 {
     let next = search.next;
     let left = search.left;
     let history = search.history;
-    let reach = telegram::inside(buf, next, left);
-    match reach {
-        Reach::Inside => detector::outside(buf, next, next + left, history as u32),
-        Reach::Beyond => Next::Beyond,
+    match telegram::inside(buf, next, left) {
+        Ok(()) => detector::outside(buf, next, next + left, history as u32),
+        Err(Beyond) => Err(NextRefused::Beyond),
     }
 }
 
@@ -119,13 +112,14 @@ pub fn next_contact(search: Search, buf: &[u8]) -> Next
 pub fn judge(buf: &[u8], start: usize, len: usize, s: u8, t: u8) -> Judged
     ensures { says_judged result ≡ judge buf.now start len s t }
 {
-    let surveyed = telegram::survey(buf, start, len, s, t);
-    match surveyed {
-        Surveyed::Alike {
-            telegram,
-            first,
-            count,
-        } => {
+    match telegram::survey(buf, start, len, s, t) {
+        Ok(
+            Surveyed {
+                telegram,
+                first,
+                count,
+            },
+        ) => {
             if 2 <= count {
                 return Judged::Read {
                     telegram,
@@ -135,10 +129,10 @@ pub fn judge(buf: &[u8], start: usize, len: usize, s: u8, t: u8) -> Judged
             }
             marker::or_neither(buf, start, len)
         }
-        Surveyed::Differ => Judged::Differ,
-        Surveyed::NotSeven => Judged::NotSeven,
-        Surveyed::Beyond => Judged::Beyond,
-        Surveyed::NoPlace => marker::or_neither(buf, start, len),
+        Err(NotAlike::Differ) => Judged::Differ,
+        Err(NotAlike::NotSeven) => Judged::NotSeven,
+        Err(NotAlike::Beyond) => Judged::Beyond,
+        Err(NotAlike::NoPlace) => marker::or_neither(buf, start, len),
     }
 }
 
@@ -149,7 +143,7 @@ pub fn judge_under(store: Store, odometer: u32, buf: &[u8], start: usize, len: u
 {
     let asked = settings::at(store, odometer);
     match asked {
-        Asked::Refused(bad) => JudgedUnder::Settings(bad),
-        Asked::InForce(held) => under::with_pair(judge(buf, start, len, held.s, held.t)),
+        Err(bad) => JudgedUnder::Settings(bad),
+        Ok(held) => under::with_pair(judge(buf, start, len, held.s, held.t)),
     }
 }

@@ -40,14 +40,11 @@ fn ones_at_end(buf: &[u8], start: usize, len: usize) -> usize
     ensures { (result ≡ ones_at_end buf.now start len) × (result ≤ len) }
 {
     let mut ones: usize = 0;
-    let mut n = len;
-    while 0 < n {
-        let last = n - 1;
-        if bit(buf, start + last) == 0 {
+    for n in (0..len).rev() {
+        if bit(buf, start + n) == 0 {
             return ones;
         }
         ones += 1;
-        n = last;
     }
     ones
 }
@@ -57,13 +54,10 @@ fn all_zero(buf: &[u8], start: usize, len: usize) -> bool
     requires { (start + len ≤ 8 * length buf.now) × (start + len < 2 ^ 64) }
     ensures { result ≡ all_zero buf.now start len }
 {
-    let mut n = len;
-    while 0 < n {
-        let last = n - 1;
-        if bit(buf, start + last) == 1 {
+    for n in (0..len).rev() {
+        if bit(buf, start + n) == 1 {
             return false;
         }
-        n = last;
     }
     true
 }

@@ -1,7 +1,7 @@
 -- What stands for a contact has the room that a program lends: each piece has its words and a
 -- number, and 2,000 bits have at most 1,961 telegrams and 21 strips.
 -- Assumes nothing.
-use Prim.Native.Nat.{ℕ, zero, suc, ◌+◌, ◌-◌, ◌*◌, ◌/◌, ◌≤◌}
+use Prim.Native.Nat.{ℕ, zero, suc, ◌+◌, ◌-◌, ◌*◌, ◌≤◌}
 use native.Mathlib.Nat.{mul-suc}
 use native.Mathlib.Omega.{arith}
 use mathlib.Core.Path.{◌≡◌, refl, ◌∙◌}
@@ -11,7 +11,6 @@ use lib.Dec.{eqb, ltb}
 use lib.ListN.{length, length-append}
 use Rattle.words.specs.Answer.{pick}
 use Rattle.text.specs.Text.{codes, decimal}
-use Rattle.text.specs.Put.{put}
 use Rattle.text.specs.Pieces.{whole}
 use Rattle.text.proofs.Decimal.{decimal_length}
 use Rattle.text.proofs.Standing.{stands}

@@ -8,19 +8,18 @@ ghost use Rattle.text.specs.Pieces.{puts};
 ghost use Rattle.contact_drawing.specs.Strips.{is_found, boxes, telegram_of, each};
 
 use antenna_text::number_at;
-use telegram::Found;
+use telegram::NotFound;
 use text::{put, put_number};
 
 // Whether the forty bits from bit p on are a telegram.
 fn is_telegram(bits: &[u8], p: usize, s: u8, t: u8) -> bool
     ensures { result ≡ is_found (find bits.now p 40 s t) }
 {
-    let found = telegram::find(bits, p, 40, s, t);
-    match found {
-        Found::At { place, telegram } => true,
-        Found::NotSeven => false,
-        Found::Beyond => false,
-        Found::NoPlace => false,
+    match telegram::find(bits, p, 40, s, t) {
+        Ok(_) => true,
+        Err(NotFound::NotSeven) => false,
+        Err(NotFound::Beyond) => false,
+        Err(NotFound::NoPlace) => false,
     }
 }
 
@@ -79,11 +78,9 @@ pub fn put_telegrams(
     requires { first + n ≤ 4000 }
     ensures { came result buf.new ≡ puts (each (telegram_of bits.now first start s t) 0 n) buf.old at }
 {
-    let mut i: usize = 0;
     let mut next = at;
-    while i < n {
+    for i in 0..n {
         next = put_telegram(bits, first, start, s, t, i, buf, next);
-        i += 1;
     }
     next
 }

@@ -38,11 +38,9 @@ fn put_strips(start: usize, n: usize, buf: &mut [u8], at: usize) -> usize
     requires { n ≤ 4000 }
     ensures { came result buf.new ≡ puts (each (strip start) 0 n) buf.old at }
 {
-    let mut k: usize = 0;
     let mut next = at;
-    while k < n {
+    for k in 0..n {
         next = put_strip(start, k, buf, next);
-        k += 1;
     }
     next
 }

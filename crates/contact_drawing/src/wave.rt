@@ -39,11 +39,9 @@ pub fn put_wave(bits: &[u8], first: usize, n: usize, buf: &mut [u8], at: usize) 
     requires { first + n ≤ 4000 }
     ensures { came result buf.new ≡ puts (each (bit_of bits.now first) 0 n) buf.old at }
 {
-    let mut i: usize = 0;
     let mut next = at;
-    while i < n {
+    for i in 0..n {
         next = put_bit(bit(bits, first + i), buf, next);
-        i += 1;
     }
     next
 }

@@ -1,14 +1,13 @@
 -- What the contracts of `contact::begin`, `next_contact` and `judge` allow: the theorems take these
 -- as their hypotheses.
 -- Assumes nothing.
-use Rattle.std.specs.Prelude.{ℕ, ◌-◌, ◌≡◌, List}
+use Rattle.std.specs.Prelude.{ℕ, ◌-◌, ◌≡◌, List, Ok}
 use contract.Lifetimes.{Lfts}
 use Rattle.std.specs.Borrow.{Bor}
 use borrow.Fn.Kinds.{ended_of}
 use denote.Triple.Clauses.{AtExit}
 use Rattle.contact.specs.Contacts.{Contacts}
 use Rattle.contact.specs.declared.Search.{Search}
-use Rattle.contact.specs.declared.SearchBegun.{SearchBegun}
 use Rattle.contact.specs.declared.Judged.{Judged}
 use Rattle.contact.proofs.Law.{Comes}
 use Rattle.contact.proofs.Calls.{Begins, Called}
@@ -20,7 +19,7 @@ use Rattle.contact.proofs.judge.Reads as judge_reads
 -- that its contract allows.
 pub record Listened (b : List ℕ) (from to : ℕ) (w : Contacts) : Type 0 where
   pub search : Search
-  pub begins : Begins b from (to - from) (SearchBegun.Search search)
+  pub begins : Begins b from (to - from) (Ok search)
   pub comes : Comes (Called b) search w
 
 -- The contract of `judge` allows the answer r for this stretch of the buffer and these sync words.

@@ -6,7 +6,7 @@ pub mod JudgedAlike
 pub mod Clean
 pub mod Noise
 pub mod Needed
-use Rattle.words.specs.Says.{says_short_read, says_long_read}
+use Rattle.words.specs.Says.{says_read}
 use Rattle.balise_line.specs.Line.{OneBalise, Proper}
 use Rattle.demands.specs.ByContract.{ReadShort, ReadLong}
 use Rattle.demands.specs.Demand3.{OnlyTheSent, Demand3}
@@ -38,8 +38,8 @@ only_the_sent o proper every-place =
 pub demand_3 : Demand3
 demand_3 =
     record {
-      short_code = noise_law short says_short_read ReadShort (λ w r called. called.1);
-      long_code = noise_law long says_long_read ReadLong (λ w r called. called.1);
+      short_code = noise_law short says_read ReadShort (λ w r called. called.1);
+      long_code = noise_law long says_read ReadLong (λ w r called. called.1);
       stretch = λ o proper quiet. only_the_sent o proper (all_sent_law o proper (few_flips_few o quiet));
       ends = asking_ends;
       clean = λ o proper clean. comes_all_sent o clean proper;

@@ -3,16 +3,14 @@
 -- table NR); 88/07 refused; distances (BY,BZ) (0,1) 125, (13,14) 119000, (14,1) 7000, (14,14) 500,
 -- (0,0) refused without a 14."
 -- Assumes nothing.
-use Rattle.std.specs.Prelude.{ℕ, ◌≡◌, List, [], ◌∷◌}
+use Rattle.std.specs.Prelude.{ℕ, ◌≡◌, List, [], ◌∷◌, Result}
 use Rattle.words.specs.Answer.{gives, refuses}
 use Rattle.words.specs.Why.{numbered}
-use Rattle.words.specs.Says.{says_short_read, says_short_written, says_long_read, says_long_written}
-use Rattle.words.specs.declared.ShortRead.{ShortRead}
-use Rattle.words.specs.declared.ShortWritten.{ShortWritten}
-use Rattle.words.specs.declared.LongRead.{LongRead}
-use Rattle.words.specs.declared.LongWritten.{LongWritten}
+use Rattle.words.specs.Says.{says_read, says_written}
+use Rattle.words.specs.declared.NotCode.{NotCode}
+use Rattle.words.specs.declared.TooLarge.{TooLarge}
 use Rattle.group.specs.Says.{says_measured}
-use Rattle.group.specs.declared.Measured.{Measured}
+use Rattle.group.specs.declared.NoDistance.{NoDistance}
 use Rattle.demands.specs.ByContract.{ReadShort, WriteShort, ReadLong, WriteLong, Distance}
 
 -- "M(8,4) is, for 0 to 15"
@@ -37,13 +35,13 @@ pub data Case : Type 0 where
 -- specs/RowCases.antt.)
 abbrev pub Holds : Case → Type 0
 Holds (short x w) =
-    ((a : ShortWritten) → WriteShort x a → says_short_written a ≡ gives w) × ((r : ShortRead) → ReadShort w r → says_short_read r ≡ gives x)
-Holds (not_short w) = (r : ShortRead) → ReadShort w r → numbered (says_short_read r) ≡ refuses 1
+    ((a : Result ℕ TooLarge) → WriteShort x a → says_written a ≡ gives w) × ((r : Result ℕ NotCode) → ReadShort w r → says_read r ≡ gives x)
+Holds (not_short w) = (r : Result ℕ NotCode) → ReadShort w r → numbered (says_read r) ≡ refuses 1
 Holds (long x w) =
-    ((a : LongWritten) → WriteLong x a → says_long_written a ≡ gives w) × ((r : LongRead) → ReadLong w r → says_long_read r ≡ gives x)
-Holds (not_long w) = (r : LongRead) → ReadLong w r → numbered (says_long_read r) ≡ refuses 1
-Holds (far by bz d) = (r : Measured) → Distance by bz r → says_measured r ≡ gives d
-Holds (not_far by bz) = (r : Measured) → Distance by bz r → says_measured r ≡ refuses 15
+    ((a : Result ℕ TooLarge) → WriteLong x a → says_written a ≡ gives w) × ((r : Result ℕ NotCode) → ReadLong w r → says_read r ≡ gives x)
+Holds (not_long w) = (r : Result ℕ NotCode) → ReadLong w r → numbered (says_read r) ≡ refuses 1
+Holds (far by bz d) = (r : Result ℕ NoDistance) → Distance by bz r → says_measured r ≡ gives d
+Holds (not_far by bz) = (r : Result ℕ NoDistance) → Distance by bz r → says_measured r ≡ refuses 15
 
 -- The table.
 abbrev pub cases : List Case

@@ -12,43 +12,47 @@
 -- first two of `write`'s. Where the other crates say when they refuse, the face for C among them
 -- (crates/abi_laws), is in docs/DEMANDS.md.
 -- Assumes nothing.
-use Rattle.std.specs.Prelude.{ℕ, ◌+◌, ◌*◌, List, [], ◌∷◌, take}
+use Rattle.std.specs.Prelude.{ℕ, ◌+◌, ◌*◌, List, [], ◌∷◌, take, Option, Result, ⊤}
 use Rattle.words.specs.Why.{not_code_word}
 use Rattle.words.specs.Plain.{figure}
 use Rattle.words.specs.Code.{exchanged, sent}
-use Rattle.words.specs.Says.{says_short_read, says_short_written, says_long_read, says_long_written}
-use Rattle.words.specs.declared.ShortRead.{ShortRead}
-use Rattle.words.specs.declared.ShortWritten.{ShortWritten}
-use Rattle.words.specs.declared.LongRead.{LongRead}
-use Rattle.words.specs.declared.LongWritten.{LongWritten}
+use Rattle.words.specs.Says.{says_read, says_written}
+use Rattle.words.specs.declared.NotCode.{NotCode}
+use Rattle.words.specs.declared.TooLarge.{TooLarge}
 use Rattle.telegram.specs.Sync.{good}
 use Rattle.telegram.specs.Stretch.{taken}
 use Rattle.telegram.specs.Says.{says_pair, says_reach, says_telegram_read, says_found, says_surveyed}
-use Rattle.telegram.specs.declared.Pair.{Pair}
-use Rattle.telegram.specs.declared.Reach.{Reach}
-use Rattle.telegram.specs.declared.TelegramRead.{TelegramRead}
+use Rattle.telegram.specs.declared.NotSeven.{NotSeven}
+use Rattle.telegram.specs.declared.Beyond.{Beyond}
+use Rattle.telegram.specs.declared.BadWord.{BadWord}
+use Rattle.telegram.specs.declared.Telegram.{Telegram}
 use Rattle.telegram.specs.declared.Found.{Found}
+use Rattle.telegram.specs.declared.NotFound.{NotFound}
 use Rattle.telegram.specs.declared.Surveyed.{Surveyed}
+use Rattle.telegram.specs.declared.NotAlike.{NotAlike}
 use Rattle.balise_writer.specs.Says.{says_answer}
 use Rattle.balise_writer.specs.declared.Written.{Written}
 use Rattle.contact.specs.Contacts.{from_start}
 use Rattle.contact.specs.Says.{says_search_begun, says_next, says_judged}
 use Rattle.contact.specs.declared.Search.{Search}
-use Rattle.contact.specs.declared.SearchBegun.{SearchBegun}
-use Rattle.contact.specs.declared.Next.{Next}
+use Rattle.contact.specs.declared.HandedOut.{HandedOut}
+use Rattle.contact.specs.declared.NextRefused.{NextRefused}
 use Rattle.contact.specs.declared.Judged.{Judged}
+use Rattle.group_rows.specs.declared.Picked.{Picked}
+use Rattle.group.specs.declared.Message.{Message}
 use Rattle.group.specs.Says.{says_measured, says_group_judged as says_group}
 use Rattle.group_rows.specs.declared.Placed.{Placed}
-use Rattle.group_rows.specs.declared.Fitted.{Fitted}
+use Rattle.group_rows.specs.declared.NoRow.{NoRow}
 use Rattle.group_rows.specs.Fitting.{says_fitted}
 use Rattle.group.specs.declared.Group.{Group}
-use Rattle.group.specs.declared.Measured.{Measured}
-use Rattle.group.specs.declared.GroupJudged.{GroupJudged}
+use Rattle.group.specs.declared.NoDistance.{NoDistance}
+use Rattle.group.specs.declared.GroupRefused.{GroupRefused}
 use Rattle.ride.specs.Record.{odometer_of, passed_of}
 use Rattle.ride.specs.Over.{through}
 use Rattle.ride.specs.Says.{says_checked, says_stepped, says_treated, says_ran}
 use Rattle.ride.specs.declared.Ride.{Ride}
 use Rattle.ride.specs.declared.Checked.{Checked}
+use Rattle.ride.specs.declared.Wrong.{Wrong}
 use Rattle.ride.specs.declared.Stepped.{Stepped}
 use Rattle.ride.specs.declared.trace.Treated.{Treated}
 use Rattle.ride.specs.declared.Ran.{Ran}
@@ -74,29 +78,29 @@ pub use Rattle.demands.specs.Untouched.{Bare, Untouched}
 -- exactly if none does. What the others (`Given`) read is demand 2's: `Groups`
 -- (specs/Demand2.antt), `Riding` (specs/Ride.antt), `Written` (specs/Output.antt).
 pub record Demand1 : Type 0 where
-  pub read_short : (w : ℕ) (r : ShortRead) → ReadShort w r → Decided (Is (figure 8 (exchanged 8 w))) (row_of (not_code_word 8 w) (not_code 8 w) ∷ []) (says_short_read r)
-  pub write_short : (x : ℕ) (r : ShortWritten) → WriteShort x r → Decided (Is (sent 8 x)) (row 2 (above 15 x) ∷ []) (says_short_written r)
-  pub read_long : (w : ℕ) (r : LongRead) → ReadLong w r → Decided (Is (figure 16 (exchanged 16 w))) (row_of (not_code_word 16 w) (not_code 16 w) ∷ []) (says_long_read r)
-  pub write_long : (x : ℕ) (r : LongWritten) → WriteLong x r → Decided (Is (sent 16 x)) (row 2 (above 2047 x) ∷ []) (says_long_written r)
-  pub good_pair : (s t : ℕ) (r : Pair) → GoodPair s t r → Decided (Is good) (row 4 (not_seven s t) ∷ []) (says_pair r)
-  pub inside : (b : List ℕ) (start len : ℕ) (r : Reach) → InsideBuffer b start len r → Decided (Is taken) (row 5 (beyond b start len) ∷ []) (says_reach r)
-  pub read_telegram : (x y z : ℕ) (r : TelegramRead) → ReadTelegram x y z r → Decided Given (telegram_rules x y z) (says_telegram_read r)
-  pub find : (b : List ℕ) (start len s t : ℕ) (r : Found) → Find b start len s t r
+  pub read_short : (w : ℕ) (r : Result ℕ NotCode) → ReadShort w r → Decided (Is (figure 8 (exchanged 8 w))) (row_of (not_code_word 8 w) (not_code 8 w) ∷ []) (says_read r)
+  pub write_short : (x : ℕ) (r : Result ℕ TooLarge) → WriteShort x r → Decided (Is (sent 8 x)) (row 2 (above 15 x) ∷ []) (says_written r)
+  pub read_long : (w : ℕ) (r : Result ℕ NotCode) → ReadLong w r → Decided (Is (figure 16 (exchanged 16 w))) (row_of (not_code_word 16 w) (not_code 16 w) ∷ []) (says_read r)
+  pub write_long : (x : ℕ) (r : Result ℕ TooLarge) → WriteLong x r → Decided (Is (sent 16 x)) (row 2 (above 2047 x) ∷ []) (says_written r)
+  pub good_pair : (s t : ℕ) (r : Result ⊤ NotSeven) → GoodPair s t r → Decided (Is good) (row 4 (not_seven s t) ∷ []) (says_pair r)
+  pub inside : (b : List ℕ) (start len : ℕ) (r : Result ⊤ Beyond) → InsideBuffer b start len r → Decided (Is taken) (row 5 (beyond b start len) ∷ []) (says_reach r)
+  pub read_telegram : (x y z : ℕ) (r : Result Telegram BadWord) → ReadTelegram x y z r → Decided Given (telegram_rules x y z) (says_telegram_read r)
+  pub find : (b : List ℕ) (start len s t : ℕ) (r : Result Found NotFound) → Find b start len s t r
       → Decided (Is (find_reads b start len s t)) (find_rules b start len s t) (says_found r)
-  pub survey : (b : List ℕ) (start len s t : ℕ) (r : Surveyed) → Survey b start len s t r
+  pub survey : (b : List ℕ) (start len s t : ℕ) (r : Result Surveyed NotAlike) → Survey b start len s t r
       → Decided (Is (survey_reads b start len s t)) (survey_rules b start len s t) (says_surveyed r)
   pub write : (x y z s t n : ℕ) (before : List ℕ) (r : Written) (after : List ℕ) → Write x y z s t n before r after
       → Decided (Is (4 * n + 1)) (write_rules x y z s t n before) (says_answer r)
-  pub begin : (b : List ℕ) (start len : ℕ) (r : SearchBegun) → Begin b start len r
+  pub begin : (b : List ℕ) (start len : ℕ) (r : Result Search Beyond) → Begin b start len r
       → Decided (Is (from_start start len)) (row 5 (beyond b start len) ∷ []) (says_search_begun r)
-  pub next_contact_law : (b : List ℕ) (search : Search) (r : Next) → NextContact b search r → Decided (NextReads b search) (next_rules b search) (says_next r)
+  pub next_contact_law : (b : List ℕ) (search : Search) (r : Result (Option HandedOut) NextRefused) → NextContact b search r → Decided (NextReads b search) (next_rules b search) (says_next r)
   pub judge_contact : (b : List ℕ) (start len s t : ℕ) (r : Judged) → JudgeContact b start len s t r
       → Decided (JudgeReads b start len s t) (judge_rules b start len s t) (says_judged r)
-  pub fit_row : (p : List Placed) (n : ℕ) (r : Fitted) → FitRow p n r → Decided Given (row 13 (no_row (take n p)) ∷ []) (says_fitted r)
-  pub distance : (by figure : ℕ) (r : Measured) → Distance by figure r
+  pub fit_row : (p : List Placed) (n : ℕ) (r : Result Picked NoRow) → FitRow p n r → Decided Given (row 13 (no_row (take n p)) ∷ []) (says_fitted r)
+  pub distance : (by figure : ℕ) (r : Result ℕ NoDistance) → Distance by figure r
       → Decided Given (row 15 (no_distance by figure) ∷ []) (says_measured r)
-  pub judge_group : (g : Group) (r : GroupJudged) → JudgeGroup g r → Decided Given (group_rules g) (says_group r)
-  pub check_record : (ride : Ride) (bytes : List ℕ) (r : Checked) → CheckRecord ride bytes r
+  pub judge_group : (g : Group) (r : Result Message GroupRefused) → JudgeGroup g r → Decided Given (group_rules g) (says_group r)
+  pub check_record : (ride : Ride) (bytes : List ℕ) (r : Result Checked Wrong) → CheckRecord ride bytes r
       → Decided (Is (record { odometer = odometer_of bytes; passed = passed_of bytes })) (record_rules ride bytes) (says_checked r)
   pub step : (ride : Ride) (gap : ℕ) (bytes : List ℕ) (r : Stepped) → StepOf ride gap bytes r
       → Decided Given (step_rules ride gap bytes) (says_stepped r).lines

@@ -9,23 +9,24 @@
 -- the contracts allow: specs/ByContract.antt; calls of `find` one after the other: specs/Calls.antt.
 -- That all of this holds: proofs/Demand3.antt.
 -- Assumes nothing.
-use Rattle.std.specs.Prelude.{ℕ, ◌+◌, ◌≤◌, ◌≡◌, ◌↔◌, true, false, length}
+use Rattle.std.specs.Prelude.{ℕ, Ok, ◌+◌, ◌≤◌, ◌≡◌, ◌↔◌, true, false, length, Result}
 use mathlib.Core.List.{List, Memᴰ, map}
 use Rattle.std.specs.Int.Bits.{bit_xor}
 use Rattle.words.specs.Answer.{Answer, Outcome, gives, refuses}
 use Rattle.words.specs.Why.{Why}
 use Rattle.words.specs.Plain.{among, figure}
 use Rattle.words.specs.Code.{exchanged}
-use Rattle.words.specs.Says.{says_short_read, says_long_read}
+use Rattle.words.specs.Says.{says_read}
 use Rattle.telegram.specs.Place.{words_at, from, those}
 use Rattle.telegram.specs.Survey.{Alike, alike}
 use Rattle.telegram.specs.Says.{says_surveyed}
 use Rattle.telegram.specs.declared.Telegram.{Telegram}
 use Rattle.telegram.specs.declared.Found.{Found}
+use Rattle.telegram.specs.declared.NotFound.{NotFound}
 use Rattle.telegram.specs.declared.Surveyed.{Surveyed}
+use Rattle.telegram.specs.declared.NotAlike.{NotAlike}
 use Rattle.settings.specs.declared.Store.{Store}
 use Rattle.settings.specs.declared.Held.{Held}
-use Rattle.settings.specs.declared.Asked.{Asked}
 use Rattle.contact.specs.Judge.{Contact, read}
 use Rattle.contact.specs.Says.{says_judged, says_judged_under}
 use Rattle.contact.specs.declared.Judged.{Judged}
@@ -61,7 +62,7 @@ pub record TheSent (o : OneBalise) (p : ℕ) (m : Telegram) : Type 0 where
 
 -- The list is all that comes of calling `find` with the stretch, and from the bit after each place,
 -- until it answers 6.
-abbrev pub ComesOf : OneBalise → List Found → Type 0
+abbrev pub ComesOf : OneBalise → List (Result Found NotFound) → Type 0
 ComesOf o w = Comes o.buffer o.s o.t o.start o.len w
 
 -- What judging the whole stretch says, where only the sent is heard.
@@ -92,19 +93,19 @@ pub record SurveyedTheSent (o : OneBalise) (said : Outcome Alike) : Type 0 where
 -- settings too. All places are true and have the words sent, and the unflipped ones are among them.
 pub record OnlyTheSent (o : OneBalise) : Type 0 where
   pub every : (p : ℕ) (m : Telegram) → HandedOut o.buffer o.s o.t o.start o.len p m → TheSent o p m
-  pub unflipped : (w : List Found) → ComesOf o w → (p : ℕ) → sent_at o p ≡ true → flips_at o p ≡ 0
-      → Memᴰ (Found.At p o.telegram) w
+  pub unflipped : (w : List (Result Found NotFound)) → ComesOf o w → (p : ℕ) → sent_at o p ≡ true → flips_at o p ≡ 0
+      → Memᴰ (Ok (record { place = p; telegram = o.telegram })) w
   pub all_places : (p : ℕ) → among p (places_of o) ≡ true → (sent_at o p ≡ true) × (words_at o.buffer p ≡ gives o.telegram)
   pub unflipped_places : (p : ℕ) → sent_at o p ≡ true → flips_at o p ≡ 0 → among p (places_of o) ≡ true
   pub judge : (r : Judged) → JudgeContact o.buffer o.start o.len o.s o.t r → JudgedTheSent o (says_judged r)
-  pub survey : (r : Surveyed) → Survey o.buffer o.start o.len o.s o.t r → SurveyedTheSent o (says_surveyed r)
+  pub survey : (r : Result Surveyed NotAlike) → Survey o.buffer o.start o.len o.s o.t r → SurveyedTheSent o (says_surveyed r)
   -- with the balise's sync words in force at the odometer given with the contact
-  pub judge_under_law : (store : Store) (odometer : ℕ) (held : Held) (r : JudgedUnder) → AskAt store odometer (Asked.InForce held) → held.s ≡ o.s → held.t ≡ o.t
+  pub judge_under_law : (store : Store) (odometer : ℕ) (held : Held) (r : JudgedUnder) → AskAt store odometer (Ok held) → held.s ≡ o.s → held.t ≡ o.t
       → JudgeUnder store odometer o.buffer o.start o.len r → JudgedTheSent o (says_judged_under r)
 
 -- What comes of a clean stretch: the telegram sent, at each true place, in order.
-abbrev pub all_sent : OneBalise → List Found
-all_sent o = map (λ p. Found.At p o.telegram) (those (sent_at o) (from o.start o.len))
+abbrev pub all_sent : OneBalise → List (Result Found NotFound)
+all_sent o = map (λ p. Ok (record { place = p; telegram = o.telegram })) (those (sent_at o) (from o.start o.len))
 
 -- Demand 3. Of a telegram that has flips, up to three, it says that it is handed out as it was sent
 -- or not at all. It says nothing of a stretch from two balises, or of where the detector cuts a
@@ -112,14 +113,14 @@ all_sent o = map (λ p. Found.At p o.telegram) (those (sent_at o) (from o.start 
 pub record Demand3 : Type 0 where
   -- "For both codes, a received word is accepted exactly if its set of flipped bits is itself a
   -- code word ..": one law, twice
-  pub short_code : NoiseLaw 8 says_short_read ReadShort
-  pub long_code : NoiseLaw 16 says_long_read ReadLong
+  pub short_code : NoiseLaw 8 says_read ReadShort
+  pub long_code : NoiseLaw 16 says_read ReadLong
   -- "Over any stretch of bits, not refused with 4 or 5, .. if no sync bit flips and no telegram ..
   -- has more than three flipped data bits .."
   pub stretch : (o : OneBalise) → Proper o → FewFlips o → OnlyTheSent o
   -- asking ends: one who is answered at every call of `find` inside the stretch comes to 6
   pub ends : (o : OneBalise) → Proper o
-      → ((start len : ℕ) → o.start ≤ start → start + len ≤ o.start + o.len → (r : Found) × Find o.buffer start len o.s o.t r)
-      → (w : List Found) × ComesOf o w
+      → ((start len : ℕ) → o.start ≤ start → start + len ≤ o.start + o.len → (r : Result Found NotFound) × Find o.buffer start len o.s o.t r)
+      → (w : List (Result Found NotFound)) × ComesOf o w
   -- if nothing flips, what comes is the telegram sent, at every true place and nowhere else
-  pub clean : (o : OneBalise) → Proper o → Clean o → (w : List Found) → ComesOf o w → w ≡ all_sent o
+  pub clean : (o : OneBalise) → Proper o → Clean o → (w : List (Result Found NotFound)) → ComesOf o w → w ≡ all_sent o

@@ -1,24 +1,23 @@
 -- Calls of `list` over a trace, one after the other.
 -- Assumes nothing.
-use Rattle.std.specs.Prelude.{ℕ, List}
+use Rattle.std.specs.Prelude.{ℕ, List, Ok, Err, Result}
 use Rattle.settings.specs.declared.Store.{Store}
 use Rattle.ride.specs.declared.Ride.{Ride}
 use Rattle.ride_text.specs.Style.{Style}
-use Rattle.ride_text.specs.declared.Done.{Done}
+use Rattle.ride_text.specs.declared.Took.{Took}
+use Rattle.ride.specs.declared.TraceRefused.{TraceRefused}
 use Rattle.ride_text.specs.declared.Listed.{Listed}
 use Rattle.demands.specs.TraceCalls.{Call, ByCalls, texts_of, last_of}
 use Rattle.demands.specs.ByContract.{ListInto}
 
 -- How many records a call took, and how many bytes it wrote; a refused one none.
-abbrev pub taken : Done → ℕ
-taken (Done.Took records bytes) = records
-taken (Done.Settings bad) = 0
-taken Done.Length = 0
+abbrev pub taken : Result Took TraceRefused → ℕ
+taken (Ok took) = took.records
+taken (Err refused) = 0
 
-abbrev pub bytes_of : Done → ℕ
-bytes_of (Done.Took records bytes) = bytes
-bytes_of (Done.Settings bad) = 0
-bytes_of Done.Length = 0
+abbrev pub bytes_of : Result Took TraceRefused → ℕ
+bytes_of (Ok took) = took.bytes
+bytes_of (Err refused) = 0
 
 -- The contract of `list` in a style allows the call, under a store, from a state and the first
 -- record's number.

@@ -8,7 +8,7 @@ use Rattle.std.specs.Int.Bits.{bit_xor}
 use Rattle.words.specs.Answer.{Answer, gives, refuses}
 use Rattle.words.specs.Bits.{ones_of}
 use Rattle.words.specs.Why.{Why, why, are}
-use Rattle.words.specs.Says.{says_short_read, says_long_read}
+use Rattle.words.specs.Says.{says_read}
 use Rattle.words.specs.declared.Parity.{Parity}
 use Rattle.demands.specs.ByContract.{ReadShort, ReadLong}
 
@@ -29,5 +29,5 @@ pub record OddOrEven (n : ℕ) {A : Type 0} (says : A → Answer Why ℕ) (Reads
 
 -- Both codes.
 pub record Parities : Type 0 where
-  pub short_code : OddOrEven 8 says_short_read ReadShort
-  pub long_code : OddOrEven 16 says_long_read ReadLong
+  pub short_code : OddOrEven 8 says_read ReadShort
+  pub long_code : OddOrEven 16 says_read ReadLong

@@ -2,7 +2,7 @@
 -- "The program writes, one line each and nothing else"; "trace refused 16 as the only line for a
 -- bad trace length".
 -- Assumes nothing.
-use Rattle.std.specs.Prelude.{ℕ, ◌+◌, ◌*◌, ◌/◌, ◌≤◌, ◌<◌, ◌≡◌, true, false, List, [], ◌∷◌, ◌++◌, length, take, drop}
+use Rattle.std.specs.Prelude.{ℕ, ◌+◌, ◌*◌, ◌/◌, ◌≤◌, ◌<◌, ◌≡◌, true, false, List, [], ◌∷◌, ◌++◌, length, take, drop, Ok}
 use Rattle.words.specs.Answer.{pick}
 use Rattle.words.specs.Limits.{largest64}
 use Rattle.group_rows.specs.declared.Direction.{Direction}
@@ -25,7 +25,6 @@ use Rattle.ride.specs.declared.Ride.{Ride}
 use Rattle.text.specs.Put.{placed}
 use Rattle.ride_text.specs.Text.{codes, text, text_of}
 use Rattle.ride_text.specs.Style.{plain}
-use Rattle.ride_text.specs.declared.Done.{Done}
 use Rattle.ride_text.specs.declared.Listed.{Listed}
 use Rattle.demands.specs.Table.{bad_length, not_seven}
 use Rattle.demands.specs.ByContract.{Fresh, EndOf, RunOver, PutLine, ListInto}
@@ -90,7 +89,7 @@ AllQuoted (q ∷ qs) = (text q.line ≡ q.reads) × AllQuoted qs
 pub record Takes (gaps : ℕ → ℕ) (ride : Ride) (number : ℕ) (trace before : List ℕ) (l : Listed) (after : List ℕ) : Type 0 where
   pub n : ℕ
   pub bytes : ℕ
-  pub took : l.done ≡ Done.Took n bytes
+  pub took : l.done ≡ Ok (record { records = n; bytes = bytes })
   pub of_these : n ≤ records_in trace
   pub one_at_least : 1 ≤ records_in trace → 128 ≤ length before → number < largest64 → 1 ≤ n
   pub all_with_room : 128 * records_in trace ≤ length before → number + records_in trace ≤ largest64 → n ≡ records_in trace
@@ -118,7 +117,7 @@ pub record Written : Type 0 where
   -- the output, under a store of the program's gap
   pub whole : (store : Store) (f : Ride) (l : Listed) (e : Ended) (trace before after : List ℕ) → Forty store → bad_length trace ≡ false → records_in trace < largest64
       → 128 * records_in trace ≤ length before → Fresh f → ListInto plain f store 1 trace before l after → EndOf l.ride e
-      → (bytes : ℕ) × (l.done ≡ Done.Took (records_in trace) bytes) × (take bytes after ++ text_of (says_lines e.lines) ≡ output trace)
+      → (bytes : ℕ) × (l.done ≡ Ok (record { records = records_in trace; bytes = bytes })) × (take bytes after ++ text_of (says_lines e.lines) ≡ output trace)
   -- for a bad trace length the output is the one line
   pub refused : (trace : List ℕ) → bad_length trace ≡ true → output trace ≡ text (Line.Trace 16)
 

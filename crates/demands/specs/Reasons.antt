@@ -3,12 +3,12 @@
 -- `judge`; and that the number of balises which 10 and 11 name is that of the balises that joined
 -- the group.
 -- Assumes nothing.
-use Rattle.std.specs.Prelude.{ℕ, suc, ◌<◌, ◌≡◌, ltb}
+use Rattle.std.specs.Prelude.{ℕ, suc, ◌<◌, ◌≡◌, ltb, Result}
 use borrow.Fn.Kinds.{ended_of}
 use denote.Triple.Clauses.{AtExit}
 use Rattle.words.specs.Answer.{gives, pick}
 use Rattle.group.specs.declared.Group.{Group}
-use Rattle.group.specs.declared.GroupJudged.{GroupJudged}
+use Rattle.group.specs.declared.GroupRefused.{GroupRefused}
 use Rattle.group.specs.declared.Heard.{Heard}
 use Rattle.group.specs.declared.Message.{Message}
 use Rattle.group.specs.Says.{says_group_judged}
@@ -43,9 +43,9 @@ up_to255 k = pick (ltb k 255) k 255
 pub record Reasons : Type 0 where
   -- No reason for an accepted group; for a refused one a reason, for its number, that is true of
   -- it.
-  pub right : (g : Group) (r : Reason) (j : GroupJudged) → ExplainGroup g r → JudgeGroup g j → Right g (says_group_judged j) (says_reason r)
+  pub right : (g : Group) (r : Reason) (j : Result Message GroupRefused) → ExplainGroup g r → JudgeGroup g j → Right g (says_group_judged j) (says_reason r)
   -- Only an accepted group has no reason.
-  pub none_if : (g : Group) (r : Reason) (j : GroupJudged) → ExplainGroup g r → JudgeGroup g j → r ≡ Reason.None → (m : Message) × (says_group_judged j ≡ gives m)
+  pub none_if : (g : Group) (r : Reason) (j : Result Message GroupRefused) → ExplainGroup g r → JudgeGroup g j → r ≡ Reason.None → (m : Message) × (says_group_judged j ≡ gives m)
   -- A group that k balises joined has the count k, or 255 from 255 on;
   pub counts : (k : ℕ) (ride : Ride) → Joined k ride → ride.group.count ≡ up_to255 k
   -- so one balise alone is named as one, and more than five as so many.

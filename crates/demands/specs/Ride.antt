@@ -2,10 +2,9 @@
 -- do, for every state that a caller may lend. (Step 1 is the record `Demand1`, and what a refused
 -- group leaves is `Untouched`, both of specs/Demand1.antt.)
 -- Assumes nothing.
-use Rattle.std.specs.Prelude.{ℕ, ◌+◌, ◌-◌, ◌*◌, ◌/◌, ◌≤◌, ◌<◌, ◌≡◌, Bool, true, false, List, [], ◌∷◌, ◌++◌, length}
+use Rattle.std.specs.Prelude.{ℕ, ◌+◌, ◌-◌, ◌*◌, ◌/◌, ◌≤◌, ◌<◌, ◌≡◌, Bool, true, false, List, [], ◌∷◌, ◌++◌, length, Ok}
 use Rattle.group.specs.declared.Content.{Content}
 use Rattle.group_rows.specs.declared.Direction.{Direction}
-use Rattle.group.specs.declared.GroupJudged.{GroupJudged}
 use Rattle.group_rows.specs.declared.Kind.{Kind}
 use Rattle.group.specs.declared.Message.{Message}
 use Rattle.group.specs.declared.Number.{Number}
@@ -88,7 +87,7 @@ pub record Step3 (o : OneStep) (lines : List Line) (k : Known) : Type 0 where
 pub record Riding : Type 0 where
   -- 2 and 3: a group that is left behind closes; if it is accepted, its line with its mark and its
   -- number is given, and step 3 is done with what is known then
-  pub closes : (o : OneStep) (m : Message) (mark : Mark) (number : Number) → LeavesBehind o → JudgeGroup o.ride.group (GroupJudged.Accepted m)
+  pub closes : (o : OneStep) (m : Message) (mark : Mark) (number : Number) → LeavesBehind o → JudgeGroup o.ride.group (Ok m)
       → IsMarked (before o).linking m mark → IsNumbered m number → (k : Known) × Becomes (before o) m k × Step3 o (line_of m mark number ∷ []) k
   -- 3: no group is open
   pub none_open : (o : OneStep) → NoneOpen o → Step3 o [] (before o)
@@ -106,7 +105,7 @@ pub record Riding : Type 0 where
   pub numbered : (m : Message) → (number : Number) × IsNumbered m number
   -- "Ending the ride closes an open group and does no step 3."
   pub ended : (ride : Ride) (r : Ended) (m : Message) (mark : Mark) (number : Number) → EndOf ride r → is_open_meant ride.group ≡ true
-      → JudgeGroup ride.group (GroupJudged.Accepted m) → IsMarked ride.known.linking m mark → IsNumbered m number
+      → JudgeGroup ride.group (Ok m) → IsMarked ride.known.linking m mark → IsNumbered m number
       → (says_lines r.lines ≡ line_of m mark number ∷ []) × Becomes ride.known m r.ride.known
       × (r.ride.group ≡ no_group) × (r.ride.odometer ≡ ride.odometer) × (r.closed ≡ ride.group)
   pub nothing_open : (ride : Ride) (r : Ended) → EndOf ride r → is_open_meant ride.group ≡ false

@@ -3,20 +3,23 @@
 -- third and sixth parameter at the end are taken out of e.
 -- Assumes nothing.
 use denote.MutBor.{MutBor}
-use Rattle.std.specs.Prelude.{ℕ, ◌≡◌, List}
+use Rattle.std.specs.Prelude.{ℕ, ◌≡◌, List, Result}
 use contract.Lifetimes.{Lfts}
 use Rattle.std.specs.Borrow.{Bor}
 use borrow.Fn.Kinds.{ended_of}
 use denote.Triple.Clauses.{AtExit}
+use Rattle.group_rows.specs.declared.Picked.{Picked}
+use Rattle.group.specs.declared.Message.{Message}
 use Rattle.group_rows.specs.declared.Placed.{Placed}
-use Rattle.group_rows.specs.declared.Fitted.{Fitted}
+use Rattle.group_rows.specs.declared.NoRow.{NoRow}
 use Rattle.group.specs.declared.Group.{Group}
-use Rattle.group.specs.declared.Measured.{Measured}
+use Rattle.group.specs.declared.NoDistance.{NoDistance}
 use Rattle.group.specs.declared.Told.{Told}
-use Rattle.group.specs.declared.GroupJudged.{GroupJudged}
+use Rattle.group.specs.declared.GroupRefused.{GroupRefused}
 use Rattle.settings.specs.declared.Store.{Store}
 use Rattle.ride.specs.declared.Ride.{Ride}
 use Rattle.ride.specs.declared.Checked.{Checked}
+use Rattle.ride.specs.declared.Wrong.{Wrong}
 use Rattle.ride.specs.declared.Stepped.{Stepped}
 use Rattle.ride.specs.declared.trace.Treated.{Treated}
 use Rattle.ride.specs.declared.Ended.{Ended}
@@ -52,11 +55,11 @@ use Rattle.ride_text.proofs.list.Kinds as list_kinds
 use Rattle.ride_text.proofs.list.Reads as list_reads
 
 -- The contract of `group_rows::fit` allows the answer r for the first n of these five balises.
-abbrev pub FitRow : List Placed → ℕ → Fitted → Type 0
+abbrev pub FitRow : List Placed → ℕ → Result Picked NoRow → Type 0
 FitRow p n r = (e : AtExit (ended_of 0 fit_kinds.ps fit_kinds.r) tt) × fit_reads.Post tt (p, (n, tt)) r e
 
 -- The contract of `distance` allows the answer r for column BY and this figure.
-abbrev pub Distance : ℕ → ℕ → Measured → Type 0
+abbrev pub Distance : ℕ → ℕ → Result ℕ NoDistance → Type 0
 Distance by figure r =
     (e : AtExit (ended_of 0 distance_kinds.ps distance_kinds.r) tt) × distance_reads.Post tt (by, (figure, tt)) r e
 
@@ -65,7 +68,7 @@ abbrev pub Speed : ℕ → Told → Type 0
 Speed figure r = (e : AtExit (ended_of 0 speed_kinds.ps speed_kinds.r) tt) × speed_reads.Post tt (figure, tt) r e
 
 -- The contract of `group::judge` allows the answer r for this group.
-abbrev pub JudgeGroup : Group → GroupJudged → Type 0
+abbrev pub JudgeGroup : Group → Result Message GroupRefused → Type 0
 JudgeGroup g r = (e : AtExit (ended_of 0 judge_group_kinds.ps judge_group_kinds.r) tt) × judge_group_reads.Post tt (g, tt) r e
 
 -- The contract of `fresh` allows the ride r.
@@ -73,7 +76,7 @@ abbrev pub Fresh : Ride → Type 0
 Fresh r = (e : AtExit (ended_of 0 fresh_kinds.ps fresh_kinds.r) tt) × fresh_reads.Post tt tt r e
 
 -- The contract of `check_record` allows the answer r for these eight bytes after this ride.
-abbrev pub CheckRecord : Ride → List ℕ → Checked → Type 0
+abbrev pub CheckRecord : Ride → List ℕ → Result Checked Wrong → Type 0
 CheckRecord ride bytes r =
     (e : AtExit (ended_of 0 check_record_kinds.ps check_record_kinds.r) tt) × check_record_reads.Post tt (ride, (bytes, tt)) r e
 

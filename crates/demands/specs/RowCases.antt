@@ -2,7 +2,7 @@
 -- and just outside: what is judged of each. The balises lie 30 dm apart, the first at 1000 dm, and
 -- are given as they are received.
 -- Assumes nothing.
-use Rattle.std.specs.Prelude.{ℕ, ◌+◌, ◌*◌, ◌≡◌, true, false, List, [], ◌∷◌, ◌++◌, length, take, get_or, replicate}
+use Rattle.std.specs.Prelude.{ℕ, ◌+◌, ◌*◌, ◌≡◌, true, false, List, [], ◌∷◌, ◌++◌, length, take, get_or, replicate, Result}
 use Rattle.words.specs.Answer.{Outcome, gives, refuses}
 use Rattle.group.specs.Says.{says_group_judged}
 use Rattle.group.specs.declared.Balise.{Balise}
@@ -10,7 +10,7 @@ use Rattle.group.specs.declared.Content.{Content}
 use Rattle.group_rows.specs.declared.Direction.{Direction}
 use Rattle.group.specs.declared.Group.{Group}
 use Rattle.group.specs.declared.Heard.{Heard}
-use Rattle.group.specs.declared.GroupJudged.{GroupJudged}
+use Rattle.group.specs.declared.GroupRefused.{GroupRefused}
 use Rattle.group.specs.declared.Message.{Message}
 use Rattle.group_rows.specs.declared.Kind.{Kind}
 use Rattle.group.specs.declared.Number.{Number}
@@ -188,4 +188,4 @@ outside_cases =
 -- Every case of a list is judged so, by every answer that the contract of `group::judge` allows.
 abbrev pub AllJudged : List RowCase → Type 0
 AllJudged [] = Unit {0}
-AllJudged (c ∷ cs) = ((r : GroupJudged) → JudgeGroup (group_of c.balises) r → says_group_judged r ≡ c.judged) × AllJudged cs
+AllJudged (c ∷ cs) = ((r : Result Message GroupRefused) → JudgeGroup (group_of c.balises) r → says_group_judged r ≡ c.judged) × AllJudged cs

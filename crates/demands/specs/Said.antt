@@ -1,14 +1,14 @@
 -- What accepted groups say: their A, their distance, their speeds (document 01, "Groups"), their
 -- number.
 -- Assumes nothing.
-use Rattle.std.specs.Prelude.{ℕ, ◌≤◌, ◌≡◌, ◌⊎◌, Bool, true}
+use Rattle.std.specs.Prelude.{ℕ, ◌≤◌, ◌≡◌, ◌⊎◌, Bool, true, Result, Ok}
 use mathlib.Core.List.{List, [], ◌∷◌, Memᴰ}
 use Rattle.group_rows.specs.Row.{Found as Sought, none, found, is_one_of, Y as YOf, Z as ZOf}
 use Rattle.group.specs.Judge.{y_of, z_of, B, C, P}
 use Rattle.group.specs.declared.Content.{Content}
 use Rattle.group_rows.specs.declared.Direction.{Direction}
 use Rattle.group_rows.specs.declared.Kind.{Kind}
-use Rattle.group.specs.declared.Measured.{Measured}
+use Rattle.group.specs.declared.NoDistance.{NoDistance}
 use Rattle.group.specs.declared.Message.{Message}
 use Rattle.group_rows.specs.declared.Placed.{Placed}
 use Rattle.group.specs.declared.Number.{Number}
@@ -24,7 +24,7 @@ used bz (found c) = YOf c.part
 
 -- The distance that a group of these balises announces: by column BY, with BZ or CY.
 abbrev pub Announces : List Placed → ℕ → Type 0
-Announces bs d = (q : Measured) → Distance (y_of (B bs)) (used (z_of (B bs)) (C bs)) q → q ≡ Measured.Dm d
+Announces bs d = (q : Result ℕ NoDistance) → Distance (y_of (B bs)) (used (z_of (B bs)) (C bs)) q → q ≡ Ok d
 
 -- "A prefix 8 with PY 7 to 14 and PZ not 0 makes target figure 1 read 0, if AY is 1 to 12 or 14."
 pub record Prefixed (ay az py pz : ℕ) : Type 0 where

@@ -2,14 +2,14 @@
 -- of `begin` and `add` made, over their contracts and that of `at`. What it is for a version to be
 -- in force: `InForce` of settings/specs/Laws.antt.
 -- Assumes nothing.
-use Rattle.std.specs.Prelude.{ℕ, ◌<◌, ◌≤◌, ◌≡◌}
+use Rattle.std.specs.Prelude.{ℕ, Result, Ok, ◌<◌, ◌≤◌, ◌≡◌}
 use Rattle.words.specs.Answer.{gives}
 use Rattle.settings.specs.declared.Version.{Version}
 use Rattle.settings.specs.declared.Store.{Store}
 use Rattle.settings.specs.declared.Held.{Held}
 use Rattle.settings.specs.declared.Begun.{Begun}
 use Rattle.settings.specs.declared.Added.{Added}
-use Rattle.settings.specs.declared.Asked.{Asked}
+use Rattle.settings.specs.declared.Bad.{Bad}
 use Rattle.settings.specs.Versions.{highest, kept}
 use Rattle.settings.specs.Says.{says_verdict}
 use Rattle.settings.specs.Laws.{version_in, InForce}
@@ -32,16 +32,16 @@ pub record SettingsKept : Type 0 where
   -- versions"
   pub never_empty : (store : Store) → Made store → (1 ≤ store.count) × (store.count ≤ 32)
   -- "Any place up to 4,000,000,000 can be asked and answers with the version in force there."
-  pub any_place : (store : Store) (place : ℕ) (r : Asked) → Made store → place ≤ highest → AskAt store place r → (held : Held) × (r ≡ Asked.InForce held) × InForce store place held
+  pub any_place : (store : Store) (place : ℕ) (r : Result Held Bad) → Made store → place ≤ highest → AskAt store place r → (held : Held) × (r ≡ Ok held) × InForce store place held
   -- "each in force from a stated odometer place until the next one's": the asked place lies there,
   -- and every other place there is answered alike
-  pub from_there : (store : Store) (place : ℕ) (held : Held) → Made store → AskAt store place (Asked.InForce held) → (held.from ≤ place) × (place < held.until)
-  pub until_there : (store : Store) (place other : ℕ) (held : Held) (r : Asked) → Made store → AskAt store place (Asked.InForce held) → held.from ≤ other → other < held.until
-      → AskAt store other r → r ≡ Asked.InForce held
+  pub from_there : (store : Store) (place : ℕ) (held : Held) → Made store → AskAt store place (Ok held) → (held.from ≤ place) × (place < held.until)
+  pub until_there : (store : Store) (place other : ℕ) (held : Held) (r : Result Held Bad) → Made store → AskAt store place (Ok held) → held.from ≤ other → other < held.until
+      → AskAt store other r → r ≡ Ok held
   -- "never altered": after one more, the places below it are answered with the version that was in
   -- force there
   pub same_below : (store : Store) (v : Version) (a : Added) (place : ℕ) (before after : Held) → OneMore store v a → place < v.place
-      → AskAt store place (Asked.InForce before) → AskAt a.store place (Asked.InForce after) → version_in after ≡ version_in before
+      → AskAt store place (Ok before) → AskAt a.store place (Ok after) → version_in after ≡ version_in before
   -- and from its place on it is in force itself
   pub new_from : (store : Store) (v : Version) (a : Added) (place : ℕ) (after : Held) → OneMore store v a → v.place ≤ place
-      → AskAt a.store place (Asked.InForce after) → version_in after ≡ v
+      → AskAt a.store place (Ok after) → version_in after ≡ v

@@ -1,11 +1,10 @@
 -- What the theorems on steps take as given: a record that is accepted, and whether a group is open,
 -- stays open or is left behind.
 -- Assumes nothing.
-use Rattle.std.specs.Prelude.{ℕ, ◌+◌, ◌≤◌, ◌<◌, ◌≡◌, true, false, List}
+use Rattle.std.specs.Prelude.{ℕ, ◌+◌, ◌≤◌, ◌<◌, ◌≡◌, true, false, List, Ok}
 use Rattle.words.specs.Answer.{gives}
 use Rattle.ride.specs.State.{is_open_meant}
 use Rattle.ride.specs.Says.{says_stepped}
-use Rattle.ride.specs.declared.Checked.{Checked}
 use Rattle.ride.specs.declared.Known.{Known}
 use Rattle.ride.specs.declared.Line.{Line}
 use Rattle.ride.specs.declared.Passed.{Passed}
@@ -29,7 +28,7 @@ pub record OneStep : Type 0 where
 pub record Accepts (o : OneStep) : Type 0 where
   pub called : StepOf o.ride o.gap o.bytes o.answer
   pub good_gap : bad_gap o.gap ≡ false
-  pub accepted : CheckRecord o.ride o.bytes (Checked.Accepted o.odometer o.passed)
+  pub accepted : CheckRecord o.ride o.bytes (Ok (record { odometer = o.odometer; passed = o.passed }))
 
 -- "a group is open and the odometer exceeds its last balise by more than the gap": the step closes
 -- and judges it.

@@ -3,7 +3,7 @@
 -- given as it was. (`allowed`, `leaves`, `ride::held_at` and `ride::odometer_at` give no number:
 -- they always answer.)
 -- Assumes nothing.
-use Rattle.std.specs.Prelude.{ℕ, ◌≡◌, true, List, [], ◌∷◌, ◌++◌, take}
+use Rattle.std.specs.Prelude.{ℕ, Result, ◌≡◌, true, List, [], ◌∷◌, ◌++◌, take}
 use contract.Lifetimes.{Lfts}
 use Rattle.std.specs.Borrow.{Bor}
 use borrow.Fn.Kinds.{ended_of}
@@ -13,7 +13,8 @@ use Rattle.settings.specs.declared.Version.{Version}
 use Rattle.settings.specs.declared.Store.{Store}
 use Rattle.settings.specs.declared.Begun.{Begun}
 use Rattle.settings.specs.declared.Added.{Added}
-use Rattle.settings.specs.declared.Asked.{Asked}
+use Rattle.settings.specs.declared.Bad.{Bad}
+use Rattle.settings.specs.declared.Held.{Held}
 use Rattle.settings.specs.Versions.{kept}
 use Rattle.settings.specs.Store.{no_store_meant, judged, last_place}
 use Rattle.settings.specs.At.{held_at}
@@ -44,7 +45,7 @@ abbrev pub AddVersion : Store → Version → Added → Type 0
 AddVersion store v r = (e : AtExit (ended_of 0 add_kinds.ps add_kinds.r) tt) × add_reads.Post tt (store, (v.place, (v.gap, (v.s, (v.t, tt))))) r e
 
 -- The contract of `at` allows the answer r for this place of this store.
-abbrev pub AskAt : Store → ℕ → Asked → Type 0
+abbrev pub AskAt : Store → ℕ → Result Held Bad → Type 0
 AskAt store place r = (e : AtExit (ended_of 0 at_kinds.ps at_kinds.r) tt) × at_reads.Post tt (store, (place, tt)) r e
 
 -- The contract of `judge_under` allows the answer r for this stretch of the buffer at this
@@ -95,7 +96,7 @@ pub record StoresDecided : Type 0 where
       → Decided (Is kept) (settings_rules (record { place = 0; gap = gap; s = s; t = t }) []) (says_verdict r.verdict)
   pub add : (store : Store) (v : Version) (r : Added) → AddVersion store v r
       → Decided (Is kept) (store_rules store (version_rules (last_place store) v (row 25 (full store.count) ∷ []))) (says_verdict r.verdict)
-  pub at : (store : Store) (place : ℕ) (r : Asked) → AskAt store place r
+  pub at : (store : Store) (place : ℕ) (r : Result Held Bad) → AskAt store place r
       → Decided (Is (held_at store place)) (store_rules store (row 18 (too_high place) ∷ [])) (says_asked r)
   -- the pair in force is good, so after the store's own refusals and 18 come 5, 7 and 8
   pub judge_under_law : (store : Store) (odometer : ℕ) (b : List ℕ) (start len : ℕ) (r : JudgedUnder) → JudgeUnder store odometer b start len r

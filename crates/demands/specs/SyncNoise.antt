@@ -8,10 +8,11 @@
 -- balise_line/specs/Line.antt and balise_line/specs/Forty.antt. What follows is demand 3's own
 -- conclusion: specs/Demand3.antt. That all of this holds: proofs/Beside/SyncNoise.antt.
 -- Assumes nothing.
-use Rattle.std.specs.Prelude.{ℕ, ◌-◌, ◌≤◌, ◌<◌, ◌≡◌, true, false, List, [], ◌∷◌, get_or}
+use Rattle.std.specs.Prelude.{ℕ, ◌-◌, ◌≤◌, ◌<◌, ◌≡◌, true, false, List, [], ◌∷◌, get_or, Result, Err}
 use Rattle.words.specs.Plain.{among}
 use Rattle.telegram.specs.declared.Telegram.{Telegram}
 use Rattle.telegram.specs.declared.Found.{Found}
+use Rattle.telegram.specs.declared.NotFound.{NotFound}
 use Rattle.balise_line.specs.Line.{OneBalise, Proper, sent_at, places_of}
 use Rattle.balise_line.specs.Forty.{EqualBit, AtMostInForty}
 use Rattle.demands.specs.ByContract.{Find}
@@ -25,7 +26,7 @@ middle = 3 ∷ 4 ∷ 5 ∷ 6 ∷ []
 -- Nothing is handed out: the stretch has no place, and `find` answers 6.
 pub record NothingComes (o : OneBalise) : Type 0 where
   pub no_place : places_of o ≡ []
-  pub answers_6 : (r : Found) → Find o.buffer o.start o.len o.s o.t r → r ≡ Found.NoPlace
+  pub answers_6 : (r : Result Found NotFound) → Find o.buffer o.start o.len o.s o.t r → r ≡ Err NotFound.NoPlace
 
 -- A line with this equal bit, and at most so many flips in any forty bits in a row, of which a
 -- telegram is handed out where none was sent.

@@ -1,17 +1,18 @@
 -- Demand 1, second sentence: what a refusal leaves as it was.
 -- Assumes nothing.
-use Rattle.std.specs.Prelude.{ℕ, true, ◌≡◌, List, [], ◌∷◌}
+use Rattle.std.specs.Prelude.{ℕ, true, ◌≡◌, List, [], ◌∷◌, Result}
 use Rattle.words.specs.Answer.{Answer, gives, refuses}
 use Rattle.words.specs.Plain.{figure}
-use Rattle.words.specs.Says.{says_short_read, says_short_written, says_long_read, says_long_written}
+use Rattle.words.specs.Says.{says_read, says_written}
 use Rattle.telegram.specs.Says.{says_pair, says_reach, says_telegram_read, says_found, says_surveyed}
 use Rattle.settings.specs.Says.{says_verdict, says_asked}
 use Rattle.balise_writer.specs.Says.{says_answer}
 use Rattle.balise_writer.specs.declared.Written.{Written}
 use Rattle.contact.specs.Says.{says_search_begun, says_next, says_judged, says_judged_under}
+use Rattle.group.specs.declared.Message.{Message}
 use Rattle.group.specs.Says.{says_measured, says_group_judged as says_group}
 use Rattle.group_rows.specs.Fitting.{says_fitted}
-use Rattle.group.specs.declared.GroupJudged.{GroupJudged}
+use Rattle.group.specs.declared.GroupRefused.{GroupRefused}
 use Rattle.ride.specs.State.{no_group, is_open_meant, nothing_known}
 use Rattle.ride.specs.Joining.{take_up}
 use Rattle.ride.specs.Closing.{first_place}
@@ -72,7 +73,7 @@ pub record Untouched : Type 0 where
   -- "but for the group refusals": a group that is left behind and refused with n, 10 to 13 or 15,
   -- gives the fault line, is handed out as the one that closed, and leaves nothing known and no
   -- group but what the record itself takes up
-  pub group : (o : OneStep) (j : GroupJudged) (n : ℕ) → LeavesBehind o → JudgeGroup o.ride.group j → says_group j ≡ refuses n
+  pub group : (o : OneStep) (j : Result Message GroupRefused) (n : ℕ) → LeavesBehind o → JudgeGroup o.ride.group j → says_group j ≡ refuses n
       → says_stepped o.answer
       ≡ record {
         lines = gives (Line.Fault (first_place o.ride.group) n ∷ []);
@@ -80,7 +81,7 @@ pub record Untouched : Type 0 where
         ride = record { odometer = o.odometer; group = take_up no_group o.odometer o.passed; known = nothing_known };
       }
   -- the same where the end of the ride closes it; the odometer stays
-  pub end : (ride : Ride) (r : Ended) (j : GroupJudged) (n : ℕ) → EndOf ride r → is_open_meant ride.group ≡ true → JudgeGroup ride.group j
+  pub end : (ride : Ride) (r : Ended) (j : Result Message GroupRefused) (n : ℕ) → EndOf ride r → is_open_meant ride.group ≡ true → JudgeGroup ride.group j
       → says_group j ≡ refuses n
       → says_ended r
       ≡ record {
@@ -89,10 +90,10 @@ pub record Untouched : Type 0 where
         ride = record { odometer = ride.odometer; group = no_group; known = nothing_known };
       }
   -- no refusal carries a figure
-  pub short_read_law : Bare says_short_read
-  pub short_written : Bare says_short_written
-  pub long_read : Bare says_long_read
-  pub long_written : Bare says_long_written
+  pub short_read_law : Bare says_read
+  pub short_written : Bare says_written
+  pub long_read : Bare says_read
+  pub long_written : Bare says_written
   pub pair : Bare says_pair
   pub reach : Bare says_reach
   pub telegram_read : Bare says_telegram_read
@@ -102,7 +103,7 @@ pub record Untouched : Type 0 where
   pub begun : Bare says_search_begun
   pub next : Bare says_next
   pub contact_judged : Bare says_judged
-  pub measured : Bare says_measured
+  pub measured : Bare (says_measured {A = ℕ})
   pub fitted : Bare says_fitted
   pub group_judged : Bare says_group
   pub checked : Bare says_checked

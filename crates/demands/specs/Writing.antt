@@ -2,10 +2,11 @@
 -- and the same figures." The bits are those that `write` wrote, whatever stands in the buffer after
 -- them. That it is so: proofs/Beside/Writing.antt.
 -- Assumes nothing.
-use Rattle.std.specs.Prelude.{ℕ, ◌+◌, ◌*◌, ◌<◌, ◌≡◌, List, map}
+use Rattle.std.specs.Prelude.{ℕ, ◌+◌, ◌*◌, ◌<◌, ◌≡◌, List, map, Result, Ok}
 use Rattle.telegram.specs.Place.{from}
 use Rattle.telegram.specs.declared.Telegram.{Telegram}
 use Rattle.telegram.specs.declared.Found.{Found}
+use Rattle.telegram.specs.declared.NotFound.{NotFound}
 use Rattle.contact.specs.declared.Judged.{Judged}
 use Rattle.telegram.specs.Spelling.{asked}
 use Rattle.balise_writer.specs.declared.Written.{Written}
@@ -39,7 +40,7 @@ pub record ReadsBack (c : OneWriting) : Type 0 where
   -- `contact::judge` reads "exactly n places, the first at 0, and the same figures"
   pub judge : (r : Judged) → JudgeContact c.after 0 (8 * c.bytes) c.s c.t r → r ≡ Judged.Read (telegram_of c) 0 c.n
   -- `find`, asked again and again until 6, hands it out at 0, 32, .., 32 (n - 1)
-  pub find : (w : List Found) → Comes c.after c.s c.t 0 (8 * c.bytes) w → w ≡ map (λ k. Found.At (32 * k) (telegram_of c)) (from 0 c.n)
+  pub find : (w : List (Result Found NotFound)) → Comes c.after c.s c.t 0 (8 * c.bytes) w → w ≡ map (λ k. Ok (record { place = 32 * k; telegram = telegram_of c })) (from 0 c.n)
 
 -- It is so of every such call.
 abbrev pub WrittenIsRead : Type 0

@@ -13,7 +13,7 @@ mod whole;
 
 use acceptance::Acceptance;
 use acceptance_console::Compared;
-use console::{Cards, OptionsWent, System};
+use console::{CallWrong, NoCards, System};
 use settings::Store;
 
 // The line for wrong or missing arguments.
@@ -62,10 +62,10 @@ fn draw_cards(rt: &impl System, is_planned: bool, run: Acceptance, store: Store,
     let mut lengths = [0u64; 8192];
     let mut block = [0u8; 65536];
     match console::find_cards(rt, b"draw", first, &mut lengths, &mut block) {
-        Cards::Whole => draw_found(rt, is_planned, run, store, first, &lengths, &mut block),
-        Cards::BadLength => whole::draw_refused(rt),
-        Cards::NoCard => usage(rt),
-        Cards::Said => {}
+        Ok(()) => draw_found(rt, is_planned, run, store, first, &lengths, &mut block),
+        Err(NoCards::BadLength) => whole::draw_refused(rt),
+        Err(NoCards::NoCard) => usage(rt),
+        Err(NoCards::Said) => {}
     }
 }
 
@@ -75,9 +75,7 @@ fn draw_planned(rt: &impl System, store: Store, file: usize, cards: usize) {
         usage(rt);
         return;
     }
-    let asked = acceptance_console::plan_of(rt, b"draw", file);
-    let run = asked.run;
-    if asked.is_good {
+    if let Ok(run) = acceptance_console::plan_of(rt, b"draw", file) {
         draw_cards(rt, true, run, store, cards);
     }
 }
@@ -108,14 +106,12 @@ fn go(rt: &impl System, is_before: bool, store: Store, first: usize) {
 fn main(rt: HostRuntime) {
     let before = console::is_option(&rt, 1, b'p');
     let at: u8 = if before { 4 } else { 1 };
-    let asked = console::options_at(&rt, b"draw", false, at);
-    let store = asked.store;
-    let first = asked.first;
-    let how = asked.how;
-    match how {
-        OptionsWent::Plain => go(&rt, before, store, first),
-        OptionsWent::Settings => go(&rt, before, store, first),
-        OptionsWent::Usage => usage(&rt),
-        OptionsWent::Said => {}
+    match console::options_at(&rt, b"draw", false, at) {
+        Ok(asked) => {
+            let store = asked.store;
+            go(&rt, before, store, asked.first);
+        }
+        Err(CallWrong::Usage) => usage(&rt),
+        Err(CallWrong::Said) => {}
     }
 }

@@ -13,7 +13,7 @@ use Rattle.telegram.specs.declared.Telegram.{Telegram}
 use Rattle.antenna.specs.declared.Places.{Places}
 use Rattle.antenna.specs.declared.Sound.{Sound}
 use Rattle.antenna.specs.declared.Stand.{Stand}
-use Rattle.recording.specs.declared.Last.{Last}
+use Rattle.std.specs.Prelude.{Option, Some, None}
 use Rattle.state_bytes.specs.Figures.{figure_at_meant}
 use Rattle.ear_bytes.specs.declared.Hearing.{Hearing}
 use Rattle.ear_bytes.specs.Ears.{telegram_figures, places_figures, as_figure, stand_figures, last_kind, last_place, figures_of, telegram_in, places_in, stand_in, last_in, ear_in}
@@ -88,9 +88,9 @@ module _ (b : List ℕ) where
           behind 6 17 10 (1 ∷ sound.s ∷ sound.t ∷ sound.length ∷ sound.forty ∷ sound.ones ∷ as_figure sound.plain ∷ []) (places_figures sound.places) at i h 7 refl refl
           ∙ ap (figure_at_meant b) sum
 
-  last_back : (l : Last) → LastFits l → last_kind l ≡ figure_at_meant b 4 → last_place l ≡ figure_at_meant b 5 → l ≡ last_in b
-  last_back Last.Never fits e f = never_read b 0 e refl
-  last_back (Last.At place) fits e f = at_read b 1 place place e some f (low32 place fits)
+  last_back : (l : (Option ℕ)) → LastFits l → last_kind l ≡ figure_at_meant b 4 → last_place l ≡ figure_at_meant b 5 → l ≡ last_in b
+  last_back None fits e f = never_read b 0 e refl
+  last_back (Some place) fits e f = at_read b 1 place place e some f (low32 place fits)
 
   -- where the ear stands, among all figures
   row_of_stand : (hearing : Hearing) (i : ℕ) → get_or (stand_figures hearing.tape.ear.stand) i 0 ≡ get_or (figures_of hearing) (6 + i) 0

@@ -12,10 +12,10 @@ use Rattle.text.proofs.Placing.{placed_none, placed_join}
 use Rattle.text.proofs.Standing.{Stands, stands as stands_there, keeps}
 use Rattle.settings.specs.declared.Store.{Store}
 use Rattle.recording.specs.declared.Tape.{Tape}
-use Rattle.recording.specs.declared.Came.{Came}
+use Rattle.std.specs.Prelude.{Option, Some, None}
 use Rattle.recording.specs.declared.Taken.{Taken}
 use Rattle.recording.specs.Asking.{Going, gave, used_up, go_on}
-use Rattle.recording.specs.Says.{Went, went, says_came, says_taken}
+use Rattle.recording.specs.Says.{says_came, says_taken}
 use Rattle.ear_bytes.specs.declared.Hearing.{Hearing}
 use Rattle.ear_bytes.specs.Hearing.{joined, Stood, stands, first, at_end, after_going, some_of, Written, written, room_for, hear, end}
 use Rattle.ear_bytes.specs.Inside.{coming, either}
@@ -90,27 +90,27 @@ module _ (next : Tape → ℕ → ℕ → Going) where
   full tape k i at buffer few =
       from_last tape k i at buffer ∙ ap (λ (s : Stood). onward s at buffer) (no_room tape k i (places buffer at) (omega arith))
 
-  module _ (tape : Tape) (k i at : ℕ) (buffer : List ℕ) (w : Taken) (told : says_taken w ≡ went (next tape k i)) (room : 8 ≤ length buffer - at) where
-    is : (c : Came) → w.came ≡ c → next tape k i ≡ says_came c w.tape w.frame w.bit w.bytes
-    is c e = sym (ap (λ (x : Went). x.going) told) ∙ ap (λ (x : Came). says_came x w.tape w.frame w.bit w.bytes) e
+  module _ (tape : Tape) (k i at : ℕ) (buffer : List ℕ) (w : Taken) (told : says_taken w ≡ next tape k i) (room : 8 ≤ length buffer - at) where
+    is : (c : Option (List ℕ)) → w.came ≡ c → next tape k i ≡ says_came c w.tape w.frame w.bit
+    is c e = sym told ∙ ap (λ (x : Option (List ℕ)). says_came x w.tape w.frame w.bit) e
 
     -- Nothing came.
-    pub over : w.came ≡ Came.Nothing → parts w.tape w.frame w.bit at buffer ≡ from tape k i at buffer
+    pub over : w.came ≡ None → parts w.tape w.frame w.bit at buffer ≡ from tape k i at buffer
     over e =
         let more : places buffer at ≡ suc (places buffer at - 1) = omega arith in
         from_last w.tape w.frame w.bit at buffer
         ∙ ap (λ (s : Stood). onward s at buffer)
-        (sym (by_one tape k i (places buffer at - 1) (used_up w.tape w.frame w.bit) (is Came.Nothing e)) ∙ ap (λ (n : ℕ). some_of next n tape k i) (sym more))
+        (sym (by_one tape k i (places buffer at - 1) (used_up w.tape w.frame w.bit) (is None e)) ∙ ap (λ (n : ℕ). some_of next n tape k i) (sym more))
 
     -- A record came, and is put.
-    pub on : w.came ≡ Came.Record → length w.bytes ≡ 8 → (at' : ℕ) (buffer' : List ℕ) → came at' buffer' ≡ put w.bytes buffer at
+    pub on : (bytes : List ℕ) → w.came ≡ Some bytes → length bytes ≡ 8 → (at' : ℕ) (buffer' : List ℕ) → came at' buffer' ≡ put bytes buffer at
         → from w.tape w.frame w.bit at' buffer' ≡ from tape k i at buffer
-    on e long at' buffer' puts =
+    on bytes e long at' buffer' puts =
         let n : ℕ = places buffer' at' in
-        from_next w.bytes buffer buffer' at at' long room puts (some_of next n w.tape w.frame w.bit)
+        from_next bytes buffer buffer' at at' long room puts (some_of next n w.tape w.frame w.bit)
         ∙ ap (λ (s : Stood). onward s at buffer)
-        (sym (by_one tape k i n (gave w.tape w.frame w.bit w.bytes) (is Came.Record e))
-        ∙ ap (λ (m : ℕ). some_of next m tape k i) (sym (one_less w.bytes buffer buffer' at at' long room puts)))
+        (sym (by_one tape k i n (gave w.tape w.frame w.bit bytes) (is (Some bytes) e))
+        ∙ ap (λ (m : ℕ). some_of next m tape k i) (sym (one_less bytes buffer buffer' at at' long room puts)))
 
 -- All that is written, at the lead's end or of a piece.
 pub whole : (ends : Bool) (hearing : Hearing) (store : Store) (lead buffer : List ℕ)

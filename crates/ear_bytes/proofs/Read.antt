@@ -11,7 +11,7 @@ use Rattle.telegram.specs.declared.Telegram.{Telegram}
 use Rattle.antenna.specs.declared.Places.{Places}
 use Rattle.antenna.specs.declared.Sound.{Sound}
 use Rattle.antenna.specs.declared.Stand.{Stand}
-use Rattle.recording.specs.declared.Last.{Last}
+use Rattle.std.specs.Prelude.{Option, Some, None}
 use Rattle.state_bytes.specs.Figures.{figure_at_meant}
 use Rattle.ear_bytes.specs.declared.Hearing.{Hearing}
 use Rattle.ear_bytes.specs.Ears.{telegram_in, places_in, sound_in, stand_in, last_in, ear_in}
@@ -87,21 +87,21 @@ module _ (b : List ℕ) where
   pub inside_read : (kind : ℕ) (sound : Sound) → kind ≡ figure_at_meant b 6 → (kind ≡ 0 → ⊥) → sound ≡ sound_in b → Stand.Inside sound ≡ stand_in b
   inside_read kind sound k some e = other (eqb (figure_at_meant b 6) 0) _ _ _ (not_so kind (figure_at_meant b 6) 0 k some) (ap Stand.Inside e)
 
-  pub never_read : (kind : ℕ) → kind ≡ figure_at_meant b 4 → kind ≡ 0 → Last.Never ≡ last_in b
+  pub never_read : (kind : ℕ) → kind ≡ figure_at_meant b 4 → kind ≡ 0 → None ≡ last_in b
   never_read kind k none = chosen (eqb (figure_at_meant b 4) 0) _ _ _ (is_so kind (figure_at_meant b 4) 0 k none) refl
 
-  pub at_read : (kind x p : ℕ) → kind ≡ figure_at_meant b 4 → (kind ≡ 0 → ⊥) → x ≡ figure_at_meant b 5 → p ≡ x % 4294967296 → Last.At p ≡ last_in b
-  at_read kind x p k some e u = other (eqb (figure_at_meant b 4) 0) _ _ _ (not_so kind (figure_at_meant b 4) 0 k some) (ap Last.At (low 4294967296 p x (figure_at_meant b 5) u e))
+  pub at_read : (kind x p : ℕ) → kind ≡ figure_at_meant b 4 → (kind ≡ 0 → ⊥) → x ≡ figure_at_meant b 5 → p ≡ x % 4294967296 → Some p ≡ last_in b
+  at_read kind x p k some e u = other (eqb (figure_at_meant b 4) 0) _ _ _ (not_so kind (figure_at_meant b 4) 0 k some) (ap Some (low 4294967296 p x (figure_at_meant b 5) u e))
 
-  abbrev hearing_of : ℕ → Stand → ℕ → ℕ → Last → ℕ → Hearing
+  abbrev hearing_of : ℕ → Stand → ℕ → ℕ → Option ℕ → ℕ → Hearing
   hearing_of history stand odometer opened last bit =
       record { tape = record { ear = record { history = history; stand = stand }; odometer = odometer; opened = opened; last = last }; bit = bit }
 
-  pub hearings : (h h' o o' p p' bit bit' : ℕ) (stand stand' : Stand) (last last' : Last) → h ≡ h' → stand ≡ stand' → o ≡ o' → p ≡ p' → last ≡ last' → bit ≡ bit'
+  pub hearings : (h h' o o' p p' bit bit' : ℕ) (stand stand' : Stand) (last last' : (Option ℕ)) → h ≡ h' → stand ≡ stand' → o ≡ o' → p ≡ p' → last ≡ last' → bit ≡ bit'
       → hearing_of h stand o p last bit ≡ hearing_of h' stand' o' p' last' bit'
   hearings h h' o o' p p' bit bit' stand stand' last last' e1 e2 e3 e4 e5 e6 = cc
 
-  pub hearing_read : (h h' o o' p p' bit : ℕ) (stand : Stand) (last : Last) → h ≡ figure_at_meant b 0 → o ≡ figure_at_meant b 1 → p ≡ figure_at_meant b 2
+  pub hearing_read : (h h' o o' p p' bit : ℕ) (stand : Stand) (last : (Option ℕ)) → h ≡ figure_at_meant b 0 → o ≡ figure_at_meant b 1 → p ≡ figure_at_meant b 2
       → h' ≡ h % 65536 → stand ≡ stand_in b → o' ≡ o % 4294967296 → p' ≡ p % 4294967296 → last ≡ last_in b → bit ≡ figure_at_meant b 3
       → hearing_of h' stand o' p' last bit ≡ ear_in b
   unfolding ear_in

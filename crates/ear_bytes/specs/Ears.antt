@@ -1,13 +1,12 @@
 -- An ear as bytes: 23 figures, each of eight bytes. A case of an answer is a figure of its own, 0
 -- for the first one.
 -- Assumes nothing.
-use Rattle.std.specs.Prelude.{ℕ, ◌%◌, Bool, true, false, not, List, [], ◌∷◌, eqb}
+use Rattle.std.specs.Prelude.{ℕ, ◌%◌, Bool, true, false, not, List, [], ◌∷◌, eqb, Option, Some, None}
 use Rattle.words.specs.Answer.{pick}
 use Rattle.telegram.specs.declared.Telegram.{Telegram}
 use Rattle.antenna.specs.declared.Places.{Places}
 use Rattle.antenna.specs.declared.Sound.{Sound}
 use Rattle.antenna.specs.declared.Stand.{Stand}
-use Rattle.recording.specs.declared.Last.{Last}
 use Rattle.recording.specs.declared.Tape.{Tape}
 use Rattle.state_bytes.specs.Figures.{spread, figure_at_meant}
 use Rattle.ear_bytes.specs.declared.Hearing.{Hearing}
@@ -38,13 +37,13 @@ stand_figures (Stand.Inside sound) =
     1 ∷ sound.s ∷ sound.t ∷ sound.length ∷ sound.forty ∷ sound.ones ∷ as_figure sound.plain ∷ places_figures sound.places
 
 -- The last record's odometer as two: 0 where there is no record; 1 and the odometer.
-abbrev pub last_kind : Last → ℕ
-last_kind Last.Never = 0
-last_kind (Last.At place) = 1
+abbrev pub last_kind : Option ℕ → ℕ
+last_kind None = 0
+last_kind (Some place) = 1
 
-abbrev pub last_place : Last → ℕ
-last_place Last.Never = 0
-last_place (Last.At place) = place
+abbrev pub last_place : Option ℕ → ℕ
+last_place None = 0
+last_place (Some place) = place
 
 -- The figures of a hearing: the latest sixteen bits, the odometer, that at which the open contact
 -- opened, the bit to go on from, the last record's odometer, and where the ear stands.
@@ -87,8 +86,8 @@ sound_in bytes =
 abbrev pub stand_in : List ℕ → Stand
 stand_in bytes = pick (eqb (figure_at_meant bytes 6) 0) Stand.Outside (Stand.Inside (sound_in bytes))
 
-abbrev pub last_in : List ℕ → Last
-last_in bytes = pick (eqb (figure_at_meant bytes 4) 0) Last.Never (Last.At (figure_at_meant bytes 5 % 4294967296))
+abbrev pub last_in : List ℕ → Option ℕ
+last_in bytes = pick (eqb (figure_at_meant bytes 4) 0) None (Some (figure_at_meant bytes 5 % 4294967296))
 
 abbrev pub tape_in : List ℕ → Tape
 tape_in bytes =

@@ -1,10 +1,9 @@
 -- How large the figures of a hearing can be: as its types have it.
 -- Assumes nothing.
-use Rattle.std.specs.Prelude.{◌<◌}
+use Rattle.std.specs.Prelude.{ℕ, ◌<◌, Option, Some, None}
 use Rattle.telegram.specs.declared.Telegram.{Telegram}
 use Rattle.antenna.specs.declared.Places.{Places}
 use Rattle.antenna.specs.declared.Stand.{Stand}
-use Rattle.recording.specs.declared.Last.{Last}
 use Rattle.ear_bytes.specs.declared.Hearing.{Hearing}
 
 abbrev pub TelegramFits : Telegram → Type 0
@@ -20,9 +19,9 @@ abbrev pub StandFits : Stand → Type 0
 StandFits Stand.Outside = Unit
 StandFits (Stand.Inside sound) = (sound.s < 256) × (sound.t < 256) × PlacesFit sound.places
 
-abbrev pub LastFits : Last → Type 0
-LastFits Last.Never = Unit
-LastFits (Last.At place) = place < 4294967296
+abbrev pub LastFits : Option ℕ → Type 0
+LastFits None = Unit
+LastFits (Some place) = place < 4294967296
 
 abbrev pub HearingFits : Hearing → Type 0
 HearingFits hearing =

@@ -5,7 +5,6 @@ ghost use Rattle.ear_bytes.specs.Sizes.{TelegramFits, PlacesFit, StandFits, Last
 
 use crate::Hearing;
 use antenna::{Places, Stand};
-use recording::Last;
 use telegram::Telegram;
 
 // Those of a telegram.
@@ -94,22 +93,22 @@ fn of_stand(stand: Stand) -> [u64; 17]
 }
 
 // Whether there is a last record, and its odometer.
-fn last_kind(last: Last) -> u64
+fn last_kind(last: Option<u32>) -> u64
     ensures { result ≡ last_kind last }
 {
     match last {
-        Last::Never => 0,
-        Last::At(_) => 1,
+        None => 0,
+        Some(_) => 1,
     }
 }
 
-fn last_place(last: Last) -> u64
+fn last_place(last: Option<u32>) -> u64
     ensures value { result ≡ last_place last }
     ensures last_fits { LastFits last }
 {
     match last {
-        Last::Never => 0,
-        Last::At(place) => place as u64,
+        None => 0,
+        Some(place) => place as u64,
     }
 }
 

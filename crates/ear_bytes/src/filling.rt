@@ -1,12 +1,12 @@
 // Records into a lent buffer, one after the other, while there is room.
 ghost use Rattle.std.specs.Prelude.{◌≡◌, length};
 ghost use Rattle.text.specs.Put.{put, came};
-ghost use Rattle.recording.specs.Says.{went, says_taken};
+ghost use Rattle.recording.specs.Says.{says_taken};
 ghost use Rattle.ear_bytes.specs.Inside.{coming, either};
 ghost use Rattle.ear_bytes.specs.Says.{says};
 
 use crate::{Hearing, Wrote};
-use recording::{Came, Taken, Tape};
+use recording::{Taken, Tape};
 use settings::Store;
 
 // What was written.
@@ -30,19 +30,16 @@ fn put_one(bytes: [u8; 8], buffer: &mut [u8], at: usize) -> usize
 
 // What comes next: at the lead's end, or of a piece.
 fn next_record(ends: bool, tape: Tape, store: Store, lead: &[u8], frame: usize, bit: usize) -> Taken
-    ensures { says_taken result ≡ went (coming ends store lead.now tape frame bit) }
+    ensures { says_taken result ≡ coming ends store lead.now tape frame bit }
 {
     if ends {
         let ended = recording::end(tape);
         let then = ended.tape;
-        let came = ended.came;
-        let bytes = ended.bytes;
         return Taken {
             tape: then,
             frame,
             bit,
-            came,
-            bytes,
+            came: ended.came,
         };
     }
     recording::go_on(tape, store, lead, frame, bit)
@@ -56,15 +53,14 @@ pub fn fill(ends: bool, hearing: Hearing, store: Store, lead: &[u8], buffer: &mu
     let mut frame: usize = 0;
     let mut bit = hearing.bit;
     let mut at: usize = 0;
+    // Stays as it is: no `for` is plainer, since the records that come are not counted before.
     while buffer.len() - at >= 8 {
         let taken = next_record(ends, tape, store, lead, frame, bit);
         let next = taken.tape;
         tape = next;
         frame = taken.frame;
         bit = taken.bit;
-        let came = taken.came;
-        let bytes = taken.bytes;
-        let Came::Record = came else {
+        let Some(bytes) = taken.came else {
             return wrote(tape, frame, bit, at);
         };
         at = put_one(bytes, buffer, at);

@@ -4,7 +4,7 @@ ghost use Rattle.ear_bytes.specs.Ears.{telegram_in, places_in, sound_in, stand_i
 
 use crate::Hearing;
 use antenna::{Ear, Places, Sound, Stand};
-use recording::{Last, Tape};
+use recording::Tape;
 use state_bytes::{figure_at, low8, low16, low32};
 use telegram::Telegram;
 
@@ -68,14 +68,14 @@ fn stand(bytes: &[u8; 184]) -> Stand
     Stand::Inside(sound(bytes))
 }
 
-fn last(bytes: &[u8; 184]) -> Last
+fn last(bytes: &[u8; 184]) -> Option<u32>
     ensures { result ≡ last_in bytes.now }
 {
     if figure_at(bytes, 4) == 0 {
-        return Last::Never;
+        return None;
     }
     let place = figure_at(bytes, 5);
-    Last::At(low32(place))
+    Some(low32(place))
 }
 
 pub fn hearing(bytes: &[u8; 184]) -> Hearing

@@ -13,8 +13,8 @@ use lib.Seq.{drop-cons, drop-length}
 use borrow.Author.Tests.{le-leb, lt-leb, leb-true, eq-eqb, lt-ltb, le-ltb}
 use Rattle.words.specs.Answer.{pick}
 use Rattle.figures.specs.Figures.{between, all_digits_meant, continued, decimal, hex_digit, hex}
-use Rattle.figures.specs.declared.Figure.{Figure}
-use Rattle.figures.specs.declared.Byte.{Byte}
+use Rattle.std.specs.Prelude.{Ok, Err, Some, None}
+use Rattle.figures.specs.declared.NotFigure.{NotFigure}
 use Rattle.words.proofs.Linear.{and_parts as both}
 
 module _ (text : List ℕ) (i : ℕ) (in-text : i < length text) where
@@ -45,7 +45,7 @@ module _ (text : List ℕ) (i : ℕ) (in-text : i < length text) where
       let q = both (leb 48 c) (leb c 57) p.0 in
       (leb-true 48 c q.0, leb-true c 57 q.1, p.1)
 
-  -- The Figure.Number goes on with it.
+  -- The number goes on with it.
   pub number_on_law : (n : ℕ) → continued n (drop i text) ≡ continued (n * 10 + (c - 48)) (drop (i + 1) text)
   unfolding continued
   number_on_law n = ap (continued n) next
@@ -66,11 +66,11 @@ grows n [] = le_refl n
 grows n (c ∷ cs) = let h : n ≤ n * 10 + (c - 48) = omega arith in le_trans h (grows (n * 10 + (c - 48)) cs)
 
 -- What the number so far says of the whole.
-pub is_above : (v most : ℕ) → most < v → Figure.Above ≡ pick (leb v most) (Figure.Number v) Figure.Above
+pub is_above : (v most : ℕ) → most < v → Err NotFigure.Above ≡ pick (leb v most) (Ok v) (Err NotFigure.Above)
 is_above v most h = simp (lt-leb _ _ h)
 
-pub is_number : (n v most : ℕ) → n ≡ v → v ≤ most → Figure.Number n ≡ pick (leb v most) (Figure.Number v) Figure.Above
-is_number n v most e h = ap Figure.Number e ∙ simp (le-leb _ _ h)
+pub is_number : (n v most : ℕ) → n ≡ v → v ≤ most → Ok n ≡ pick (leb v most) (Ok v) (Err NotFigure.Above)
+is_number n v most e h = ap Ok e ∙ simp (le-leb _ _ h)
 
 -- Hex digits.
 module _ (c : ℕ) where
@@ -124,29 +124,29 @@ module _ (c : ℕ) where
 
 -- A text of two characters as a word.
 module _ (text : List ℕ) (two : length text ≡ 2) where
-  pub no_high : 16 ≤ hex_digit (get_or text 0 0) → Byte.Odd ≡ hex text
+  pub no_high : 16 ≤ hex_digit (get_or text 0 0) → None ≡ hex text
   unfolding hex
   no_high h = simp (eq-eqb _ _ two, le-ltb _ _ h)
 
-  pub no_low : hex_digit (get_or text 0 0) < 16 → 16 ≤ hex_digit (get_or text 1 0) → Byte.Odd ≡ hex text
+  pub no_low : hex_digit (get_or text 0 0) < 16 → 16 ≤ hex_digit (get_or text 1 0) → None ≡ hex text
   unfolding hex
   no_low l h = simp (eq-eqb _ _ two, lt-ltb _ _ l, le-ltb _ _ h)
 
-  pub two_digits : hex_digit (get_or text 0 0) < 16 → hex_digit (get_or text 1 0) < 16 → Byte.Is (hex_digit (get_or text 0 0) * 16 + hex_digit (get_or text 1 0)) ≡ hex text
+  pub two_digits : hex_digit (get_or text 0 0) < 16 → hex_digit (get_or text 1 0) < 16 → Some (hex_digit (get_or text 0 0) * 16 + hex_digit (get_or text 1 0)) ≡ hex text
   unfolding hex
   two_digits h l = simp (eq-eqb _ _ two, lt-ltb _ _ h, lt-ltb _ _ l)
 
 -- A text as a number.
 module _ (text : List ℕ) (most : ℕ) where
-  pub no_text : length text ≡ 0 → Figure.Odd ≡ decimal text most
+  pub no_text : length text ≡ 0 → Err NotFigure.Odd ≡ decimal text most
   unfolding decimal
   no_text e = let h : length text ≤ 0 = omega arith in simp (le-ltb _ _ h)
 
   module _ (some : 0 < length text) where
-    pub no_digits : all_digits_meant text ≡ false → Figure.Odd ≡ decimal text most
+    pub no_digits : all_digits_meant text ≡ false → Err NotFigure.Odd ≡ decimal text most
     unfolding decimal
     no_digits e = simp (lt-ltb _ _ some, e)
 
-    pub by_digits : all_digits_meant text ≡ true → pick (leb (continued 0 text) most) (Figure.Number (continued 0 text)) Figure.Above ≡ decimal text most
+    pub by_digits : all_digits_meant text ≡ true → pick (leb (continued 0 text) most) (Ok (continued 0 text)) (Err NotFigure.Above) ≡ decimal text most
     unfolding decimal
     by_digits e = simp (lt-ltb _ _ some, e)

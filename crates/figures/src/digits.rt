@@ -1,48 +1,43 @@
 // Digits, one after the other.
-ghost use Rattle.std.specs.Prelude.{◌≡◌, ◌<◌, ◌≤◌, true, leb};
+ghost use Rattle.std.specs.Prelude.{◌≡◌, ◌<◌, ◌≤◌, true, leb, Ok, Err};
 ghost use Rattle.words.specs.Answer.{pick};
 ghost use Rattle.figures.specs.Figures.{all_digits_meant, continued, hex_digit};
-ghost use Rattle.figures.specs.declared.Figure.{Figure};
+ghost use Rattle.figures.specs.declared.NotFigure.{NotFigure};
 
-use crate::Figure;
+use crate::NotFigure;
 
 // Whether all characters are decimal digits.
 pub fn all_digits(text: &[u8]) -> bool
     ensures { result ≡ all_digits_meant text.now }
 {
-    let mut i = 0;
-    while i < text.len() {
-        let c = text[i];
+    for &c in text {
         if c < 48 {
             return false;
         }
         if c > 57 {
             return false;
         }
-        i += 1;
     }
     true
 }
 
 // The number that the digits make, or that it is above `most`.
-pub fn up_to(text: &[u8], most: u64) -> Figure
+pub fn up_to(text: &[u8], most: u64) -> Result<u64, NotFigure>
     requires { all_digits_meant text.now ≡ true }
-    ensures { result ≡ pick (leb (continued 0 text.now) most) (Figure.Number (continued 0 text.now)) Figure.Above }
+    ensures { result ≡ pick (leb (continued 0 text.now) most) (Ok (continued 0 text.now)) (Err NotFigure.Above) }
 {
     let mut sum: u64 = 0;
-    let mut i = 0;
-    while i < text.len() {
-        let digit = (text[i] - 48) as u64;
+    for &c in text {
+        let digit = (c - 48) as u64;
         if digit > most {
-            return Figure::Above;
+            return Err(NotFigure::Above);
         }
         if sum > (most - digit) / 10 {
-            return Figure::Above;
+            return Err(NotFigure::Above);
         }
         sum = sum * 10 + digit;
-        i += 1;
     }
-    Figure::Number(sum)
+    Ok(sum)
 }
 
 // The value of a hex digit, or 16 for any other character.

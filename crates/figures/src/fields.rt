@@ -8,14 +8,12 @@ ghost use Rattle.figures.specs.Fields.{place_of, start_of, field, lies, part, ha
 pub fn place_of(text: &[u8], from: usize, sign: u8) -> usize
     ensures { result ≡ place_of text.now from sign }
 {
-    let mut i = from;
-    while i < text.len() {
+    for i in from..text.len() {
         if text[i] == sign {
             return i;
         }
-        i += 1;
     }
-    i
+    from.max(text.len())
 }
 
 // Where field k of a text starts; the text's end if there is none.
@@ -23,14 +21,12 @@ fn start_of(text: &[u8], sign: u8, k: usize) -> usize
     ensures { result ≡ start_of text.now sign k }
 {
     let mut at = 0;
-    let mut i = 0;
-    while i < k {
+    for _ in 0..k {
         let end = place_of(text, at, sign);
         if text.len() <= end {
             return text.len();
         }
         at = end + 1;
-        i += 1;
     }
     at
 }

@@ -13,50 +13,42 @@ mod fields;
 
 pub use fields::{field, has, more, place_of};
 
-// What a text is as a decimal number: a number, one above the largest asked for, or none.
-#[derive(Clone, Copy)]
-pub enum Figure {
-    Number(u64),
+// Why a text is no number that was asked for: it is above the largest asked for, or no number.
+#[derive(Clone, Copy, PartialEq, Eq)]
+pub enum NotFigure {
     Above,
-    Odd,
-}
-
-// What a text is as a word of two hex digits: a byte, or none.
-#[derive(Clone, Copy)]
-pub enum Byte {
-    Is(u8),
     Odd,
 }
 
 // The number that a text of decimal digits is, at least one of them, or that it is above `most`,
 // the largest asked for, however long it is; any other text is none.
-pub fn decimal(text: &[u8], most: u64) -> Figure
+pub fn decimal(text: &[u8], most: u64) -> Result<u64, NotFigure>
     ensures { result ≡ decimal text.now most }
 {
     if text.len() == 0 {
-        return Figure::Odd;
+        return Err(NotFigure::Odd);
     }
     if !digits::all_digits(text) {
-        return Figure::Odd;
+        return Err(NotFigure::Odd);
     }
     digits::up_to(text, most)
 }
 
 // The byte that a text of two hex digits of either case is, the first its high half; any other text
 // is none.
-pub fn hex(text: &[u8]) -> Byte
+pub fn hex(text: &[u8]) -> Option<u8>
     ensures { result ≡ hex text.now }
 {
     if text.len() != 2 {
-        return Byte::Odd;
+        return None;
     }
     let high = digits::hex_digit(text[0]);
     let low = digits::hex_digit(text[1]);
     if high >= 16 {
-        return Byte::Odd;
+        return None;
     }
     if low >= 16 {
-        return Byte::Odd;
+        return None;
     }
-    Byte::Is(high * 16 + low)
+    Some(high * 16 + low)
 }

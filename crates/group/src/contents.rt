@@ -1,67 +1,46 @@
 // What an accepted group says beyond its kind: its distance, its speeds.
 ghost use Rattle.std.specs.Prelude.{◌≡◌, ◌≤◌, take};
-ghost use Rattle.group.specs.Distance.{link_distance, no_increase};
+ghost use Rattle.group.specs.Distance.{link_distance};
 ghost use Rattle.group.specs.Speed.{target_figure};
 ghost use Rattle.group.specs.Judge.{y_of, z_of, B, distance_of, signal_distance, content_of};
 ghost use Rattle.group.specs.Says.{says_measured};
-ghost use Rattle.group.specs.Inside.{says_contained, says_sought};
+ghost use Rattle.group.specs.Inside.{says_sought};
 
-use crate::parts::Sought;
-use crate::{Content, Measured, parts};
+use crate::{Content, NoDistance, parts};
 use group_rows::{Kind, Placed};
 
-// What a present group says beyond its kind, or that its distance is not allowed.
-#[derive(Clone, Copy)]
-pub enum Contained {
-    NoDistance,
-    Is(Content),
-}
-
 // The figure Y of a balise that was looked for, 0 if there is none.
-fn y_sought(b: Sought) -> u8
+fn y_sought(b: Option<Placed>) -> u8
     ensures { result ≡ y_of (says_sought b) }
 {
-    match b {
-        Sought::Is(placed) => {
-            let part = placed.part;
-            parts::y_of(part)
-        }
-        Sought::Missing => 0,
-    }
+    b.map_or(0, |placed| group_rows::y_of(placed.part))
 }
 
 // The figure Z of a balise that was looked for, 0 if there is none.
-fn z_sought(b: Sought) -> u8
+fn z_sought(b: Option<Placed>) -> u8
     ensures { result ≡ z_of (says_sought b) }
 {
-    match b {
-        Sought::Is(placed) => {
-            let part = placed.part;
-            parts::z_of(part)
-        }
-        Sought::Missing => 0,
-    }
+    b.map_or(0, |placed| group_rows::z_of(placed.part))
 }
 
 // The distance from BY, BZ and the 14 (C), if there is one.
-fn link_distance(by: u8, bz: u8, c: Sought) -> Measured
+fn link_distance(by: u8, bz: u8, c: Option<Placed>) -> Result<u32, NoDistance>
     ensures { says_measured result ≡ link_distance by bz (says_sought c) }
 {
     match c {
-        Sought::Is(placed) => {
+        Some(placed) => {
             if bz == 0 {
-                let part = placed.part;
-                crate::distance(by, parts::y_of(part))
+                crate::distance(by, group_rows::y_of(placed.part))
             } else {
-                Measured::NoDistance
+                Err(NoDistance)
             }
         }
-        Sought::Missing => crate::distance(by, bz),
+        None => crate::distance(by, bz),
     }
 }
 
 // The distance of a present signal or a present warning board.
-fn distance_of(p: [Placed; 5], n: usize) -> Measured
+fn distance_of(p: [Placed; 5], n: usize) -> Result<u32, NoDistance>
     requires { n ≤ 5 }
     ensures { says_measured result ≡ distance_of (take n p) }
 {
@@ -85,70 +64,64 @@ fn target_figure(ay: u8, az: u8, py: u8, pz: u8) -> u8
     }
 }
 
-// Whether AZ, as read, is a target that a preset point cannot have: 0 or 40 km/h.
-fn no_increase(az: u8) -> bool
-    ensures { result ≡ no_increase az }
-{
-    (az == 0) | (az == 1) | (az == 13)
-}
-
 // The distance of a present signal with this B, which a preset point with such a target has not.
-fn signal_distance(az: u8, b: Sought, p: [Placed; 5], n: usize) -> Measured
+fn signal_distance(az: u8, b: Option<Placed>, p: [Placed; 5], n: usize) -> Result<u32, NoDistance>
     requires { (n ≤ 5) × (says_sought b ≡ B (take n p)) }
     ensures { says_measured result ≡ signal_distance az (take n p) }
 {
     let by = y_sought(b);
     let bz = z_sought(b);
-    if (by == 14) & no_increase(az) {
-        return Measured::NoDistance;
+    if (by == 14) & crate::no_increase(az) {
+        return Err(NoDistance);
     }
     let c = parts::first_of(p, n, 14);
     link_distance(by, bz, c)
 }
 
 // What a present signal says.
-fn of_signal(ay: u8, az: u8, p: [Placed; 5], n: usize) -> Contained
+fn of_signal(ay: u8, az: u8, p: [Placed; 5], n: usize) -> Result<Content, NoDistance>
     requires { n ≤ 5 }
-    ensures { says_contained result ≡ content_of Kind.Signal 0 ay az (take n p) }
+    ensures { says_measured result ≡ content_of Kind.Signal 0 ay az (take n p) }
 {
     let b = parts::first_of(p, n, 9);
-    match signal_distance(az, b, p, n) {
-        Measured::Dm(distance) => {
-            let prefix = parts::first_of(p, n, 8);
-            let figure = target_figure(ay, az, y_sought(prefix), z_sought(prefix));
-            Contained::Is(Content::Signal {
-                distance,
-                preset: y_sought(b) == 14,
-                main: crate::speed(ay),
-                target: crate::speed(figure),
-            })
-        }
-        Measured::NoDistance => Contained::NoDistance,
-    }
+    let distance = signal_distance(az, b, p, n)?;
+    let prefix = parts::first_of(p, n, 8);
+    let figure = target_figure(ay, az, y_sought(prefix), z_sought(prefix));
+    Ok(Content::Signal {
+        distance,
+        preset: y_sought(b) == 14,
+        main: crate::speed(ay),
+        target: crate::speed(figure),
+    })
 }
 
 // What a present warning board says.
-fn of_warning(ay: u8, az: u8, p: [Placed; 5], n: usize) -> Contained
+fn of_warning(ay: u8, az: u8, p: [Placed; 5], n: usize) -> Result<Content, NoDistance>
     requires { n ≤ 5 }
-    ensures { says_contained result ≡ content_of Kind.Warning 0 ay az (take n p) }
+    ensures { says_measured result ≡ content_of Kind.Warning 0 ay az (take n p) }
 {
-    match distance_of(p, n) {
-        Measured::Dm(distance) => Contained::Is(Content::Warning { distance }),
-        Measured::NoDistance => Contained::NoDistance,
-    }
+    let distance = distance_of(p, n)?;
+    Ok(Content::Warning { distance })
 }
 
 // What a present group says beyond its kind, or that its distance is not allowed; speed is the
 // route board's.
-pub fn of_present(kind: Kind, speed: u16, ay: u8, az: u8, p: [Placed; 5], n: usize) -> Contained
+pub fn of_present(
+    kind: Kind,
+    speed: u16,
+    ay: u8,
+    az: u8,
+    p: [Placed; 5],
+    n: usize,
+) -> Result<Content, NoDistance>
     requires { n ≤ 5 }
-    ensures { says_contained result ≡ content_of kind speed ay az (take n p) }
+    ensures { says_measured result ≡ content_of kind speed ay az (take n p) }
 {
     match kind {
         Kind::Signal => of_signal(ay, az, p, n),
         Kind::Warning => of_warning(ay, az, p, n),
-        Kind::Annulled => Contained::Is(Content::Nothing),
-        Kind::Line => Contained::Is(Content::Nothing),
-        Kind::Route => Contained::Is(Content::Route(speed)),
+        Kind::Annulled => Ok(Content::Nothing),
+        Kind::Line => Ok(Content::Nothing),
+        Kind::Route => Ok(Content::Route(speed)),
     }
 }

@@ -4,9 +4,8 @@ ghost use Rattle.group.specs.Numbers.{number_of};
 ghost use Rattle.group.specs.Judge.{message_of, judge_as, judge_read};
 ghost use Rattle.group.specs.Says.{says_group_judged};
 
-use crate::contents::Contained;
-use crate::{Content, GroupJudged, Message, Number, contents, parts};
-use group_rows::{Direction, Fitted, Picked, Placed};
+use crate::{Content, GroupRefused, Message, Number, contents};
+use group_rows::{Direction, Picked, Placed, y_of, z_of};
 
 // The message of a group with what its row says, this number and this content.
 fn message(row: Picked, number: Number, content: Content) -> Message
@@ -20,44 +19,39 @@ fn message(row: Picked, number: Number, content: Content) -> Message
         direction,
         kind,
         place: a.place,
-        ay: parts::y_of(part),
-        az: parts::z_of(part),
+        ay: y_of(part),
+        az: z_of(part),
         number,
         content,
     }
 }
 
 // The judgement of a group that fits a present row.
-fn as_present(row: Picked, number: Number, p: [Placed; 5], n: usize) -> GroupJudged
+fn as_present(
+    row: Picked,
+    number: Number,
+    p: [Placed; 5],
+    n: usize,
+) -> Result<Message, GroupRefused>
     requires { (n ≤ 5) × (number ≡ number_of (take n p)) }
     ensures { says_group_judged result ≡ judge_as Direction.Present row (take n p) }
 {
     let a = row.a;
     let part = a.part;
     let kind = row.kind;
-    match contents::of_present(kind, row.speed, parts::y_of(part), parts::z_of(part), p, n) {
-        Contained::Is(more) => GroupJudged::Accepted(message(row, number, more)),
-        Contained::NoDistance => GroupJudged::NoDistance,
-    }
+    let more = contents::of_present(kind, row.speed, y_of(part), z_of(part), p, n)?;
+    Ok(message(row, number, more))
 }
 
 // The judgement of the first n balises, whose number this is.
-pub fn read(p: [Placed; 5], n: usize, number: Number) -> GroupJudged
+pub fn read(p: [Placed; 5], n: usize, number: Number) -> Result<Message, GroupRefused>
     requires { (n ≤ 5) × (number ≡ number_of (take n p)) }
     ensures { says_group_judged result ≡ judge_read (take n p) }
 {
-    match group_rows::fit(p, n) {
-        Fitted::Is(row) => {
-            let direction = row.direction;
-            match direction {
-                Direction::Present => as_present(row, number, p, n),
-                Direction::Opposite => GroupJudged::Accepted(message(
-                    row,
-                    number,
-                    Content::Nothing,
-                )),
-            }
-        }
-        Fitted::NoRow => GroupJudged::NoRow,
+    let row = group_rows::fit(p, n)?;
+    let direction = row.direction;
+    match direction {
+        Direction::Present => as_present(row, number, p, n),
+        Direction::Opposite => Ok(message(row, number, Content::Nothing)),
     }
 }

@@ -7,7 +7,7 @@
 #![tactic(auto)]
 
 ghost use Rattle.std.specs.Prelude.{◌≡◌};
-ghost use Rattle.group.specs.Distance.{distance};
+ghost use Rattle.group.specs.Distance.{distance, no_increase};
 ghost use Rattle.group.specs.Speed.{signal_speed};
 ghost use Rattle.group.specs.Judge.{judge};
 ghost use Rattle.group.specs.Says.{says_measured, says_group_judged};
@@ -17,6 +17,7 @@ mod judging;
 mod numbers;
 mod parts;
 mod reading;
+mod refusals;
 mod tables;
 
 use group_rows::{Direction, Kind};
@@ -59,12 +60,9 @@ pub enum Number {
     Figure(u16),
 }
 
-// What looking up a distance answers: decimetres, or refusal 15.
-#[derive(Clone, Copy)]
-pub enum Measured {
-    Dm(u32),
-    NoDistance,
-}
+// Refusal 15: the distance is not allowed.
+#[derive(Clone, Copy, PartialEq, Eq)]
+pub struct NoDistance;
 
 // What a group says beyond its kind. The distance of a preset point is table DF's figure (BY 14):
 // it announces no signal, and a ride links nothing by it.
@@ -95,11 +93,9 @@ pub struct Message {
     pub content: Content,
 }
 
-// What judging a group answers: its message, or the refusals 10, 11, 12, 13 and 15 in this order.
-// 14 is not used.
-#[derive(Clone, Copy)]
-pub enum GroupJudged {
-    Accepted(Message),
+// Why a group is refused: 10, 11, 12, 13 and 15 in this order. 14 is not used.
+#[derive(Clone, Copy, PartialEq, Eq)]
+pub enum GroupRefused {
     One,
     Many,
     Unread,
@@ -109,20 +105,27 @@ pub enum GroupJudged {
 
 // The distance of a figure in column BY of table DF: base plus step times figure for columns 0 to
 // 14 and figures 1 to 14, else refusal 15.
-pub fn distance(by: u8, figure: u8) -> Measured
+pub fn distance(by: u8, figure: u8) -> Result<u32, NoDistance>
     ensures { says_measured result ≡ distance by figure }
 {
     if by > 14 {
-        return Measured::NoDistance;
+        return Err(NoDistance);
     }
     match figure {
         1..=14 => {
             let i = by as usize;
             let d = tables::BASES[i] as i32 + tables::STEPS[i] * figure as i32;
-            Measured::Dm(d as u32)
+            Ok(d as u32)
         }
-        _ => Measured::NoDistance,
+        _ => Err(NoDistance),
     }
+}
+
+// Whether AZ, as read, is a target that a preset point cannot have: 0 or 40 km/h.
+pub fn no_increase(az: u8) -> bool
+    ensures { result ≡ no_increase az }
+{
+    (az == 0) | (az == 1) | (az == 13)
 }
 
 // The signal speed of a figure 0 to 13; no information from 14 on.
@@ -138,24 +141,22 @@ pub fn speed(figure: u8) -> Told
 
 // The message of a closed group by the rows, with the figure of its number balise or none; or
 // refusal 10, 11, 12, 13, 15 in this order.
-pub fn judge(group: Group) -> GroupJudged
+pub fn judge(group: Group) -> Result<Message, GroupRefused>
     ensures { says_group_judged result ≡ judge group }
 {
     let count = group.count;
     let kept = group.kept;
     if count == 1 {
-        return GroupJudged::One;
+        return Err(GroupRefused::One);
     }
     if count > 5 {
-        return GroupJudged::Many;
+        return Err(GroupRefused::Many);
     }
     let n = count as usize;
-    let all = reading::read_all(kept, n);
-    if all.good {
-        let parts = all.parts;
-        let number = all.number;
-        judging::read(parts, n, number)
-    } else {
-        GroupJudged::Unread
-    }
+    let Some(all) = reading::read_all(kept, n) else {
+        return Err(GroupRefused::Unread);
+    };
+    let parts = all.parts;
+    let number = all.number;
+    judging::read(parts, n, number)
 }

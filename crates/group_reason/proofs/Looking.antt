@@ -1,23 +1,25 @@
 -- Looking for a balise of category c from balise i of the first n on: one balise, and the rest.
 -- Assumes nothing.
 use Prim.Native.Nat.{ℕ, suc, ◌+◌, ◌<◌, ◌≤◌}
-use mathlib.Core.Path.{◌≡◌, ap, ◌∙◌}
+use mathlib.Core.Path.{◌≡◌, refl, ap, ◌∙◌}
 use mathlib.Core.Bool.{Bool, true, false, ◌&&◌}
 use mathlib.Core.List.{List, [], ◌∷◌}
 use native.Mathlib.Numerals.{add-one}
 use native.Mathlib.Omega.{arith}
 use lib.ListN.{length, take, drop, get_or}
 use Rattle.group_rows.specs.declared.Placed.{Placed}
+use Rattle.std.specs.Prelude.{Option, Some, None}
 use Rattle.words.specs.Answer.{pick}
 use Rattle.group_rows.specs.declared.Kind.{Kind}
-use Rattle.group_rows.specs.Row.{any, is_category, Y, Z, Found, none, found, first}
+use Rattle.group_rows.specs.Row.{any, is_category, Found, none, found, first}
 use Rattle.group_rows.proofs.Figures.{meets_any}
 use Rattle.group_rows.proofs.Leads.{blank}
 use Rattle.group.proofs.Lists.{from_next, from_end, long_take}
 use Rattle.group_reason.specs.declared.figures.Sought.{Sought}
 use Rattle.group.specs.Distance.{is_preset, no_increase}
 use Rattle.group.specs.Judge.{y_of, z_of}
-use Rattle.group_reason.specs.Explain.{index_of, place_of, is_found, why_distance, why_present}
+use Rattle.group.specs.Inside.{says_sought}
+use Rattle.group_reason.specs.Explain.{index_of, why_distance, why_present}
 use Rattle.group_reason.specs.Inside.{sought_from, why_of}
 
 module _ (c : ℕ) (p : List Placed) (n : ℕ) (long : length p ≡ 5) (few : n ≤ 5) where
@@ -26,7 +28,7 @@ module _ (c : ℕ) (p : List Placed) (n : ℕ) (long : length p ≡ 5) (few : n 
 
   pub sought_yes : (i : ℕ) → i < n → is_category c (get_or p i blank).part ≡ true
       → sought_from c i (drop i (take n p))
-      ≡ record { is = true; balise = i; place = (get_or p i blank).place; y = Y (get_or p i blank).part; z = Z (get_or p i blank).part }
+      ≡ record { balise = i; found = Some (get_or p i blank) }
   unfolding sought_from
   sought_yes i h e = rw (rest_next i h, e)
 
@@ -35,7 +37,7 @@ module _ (c : ℕ) (p : List Placed) (n : ℕ) (long : length p ≡ 5) (few : n 
   unfolding sought_from
   sought_no i h e = rw (rest_next i h, e, add-one i)
 
-  pub sought_none : (i : ℕ) → n ≤ i → sought_from c i (drop i (take n p)) ≡ record { is = false; balise = i; place = 0; y = 0; z = 0 }
+  pub sought_none : (i : ℕ) → n ≤ i → sought_from c i (drop i (take n p)) ≡ record { balise = i; found = None }
   unfolding sought_from
   sought_none i h =
       let e : length (take n p) ≡ n = long_take p n long few in
@@ -45,8 +47,16 @@ module _ (c : ℕ) (p : List Placed) (n : ℕ) (long : length p ≡ 5) (few : n 
 -- ---- what is found
 
 -- A balise that was looked for, as it is found.
+abbrev one_of : Found → Option Placed
+one_of none = None
+one_of (found b) = Some b
+
+one_of_is : (f : Found) → says_sought (one_of f) ≡ f
+one_of_is none = refl
+one_of_is (found b) = refl
+
 abbrev as_sought : ℕ → Found → Sought
-as_sought i f = record { is = is_found f; balise = i; place = place_of f; y = y_of f; z = z_of f }
+as_sought i f = record { balise = i; found = one_of f }
 
 pub sought_is : (c i : ℕ) (bs : List Placed) → sought_from c i bs ≡ as_sought (i + index_of c bs) (first (any c) bs)
 unfolding sought_from index_of first
@@ -65,8 +75,8 @@ from_first c bs = let e : 0 + index_of c bs ≡ index_of c bs = omega arith in s
 -- From the 9 and the 14 as they were found.
 pub of_warning : (bs : List Placed) → why_of false (sought_from 9 0 bs) (sought_from 14 0 bs) ≡ why_present Kind.Warning 0 bs
 unfolding why_distance
-of_warning bs = rw (from_first 9 bs, from_first 14 bs)
+of_warning bs = rw (from_first 9 bs, from_first 14 bs, one_of_is (first (any 9) bs), one_of_is (first (any 14) bs))
 
-pub of_signal : (az : ℕ) (bs : List Placed) → why_of (is_preset (sought_from 9 0 bs).y && no_increase az) (sought_from 9 0 bs) (sought_from 14 0 bs) ≡ why_present Kind.Signal az bs
+pub of_signal : (az : ℕ) (bs : List Placed) → why_of (is_preset (y_of (says_sought (sought_from 9 0 bs).found)) && no_increase az) (sought_from 9 0 bs) (sought_from 14 0 bs) ≡ why_present Kind.Signal az bs
 unfolding why_distance
-of_signal az bs = rw (from_first 9 bs, from_first 14 bs)
+of_signal az bs = rw (from_first 9 bs, from_first 14 bs, one_of_is (first (any 9) bs), one_of_is (first (any 14) bs))

@@ -9,6 +9,7 @@ use native.Mathlib.Omega.{arith}
 use lib.Dec.{eqb, ltb}
 use lib.ListN.{length}
 use borrow.Author.Tests.{eqb-true, eq-eqb, ltb-true}
+use Rattle.std.specs.Prelude.{Result}
 use Rattle.words.specs.Answer.{Answer, Outcome, gives, refuses, then, pick}
 use Rattle.group_rows.specs.declared.Direction.{Direction}
 use Rattle.group_rows.specs.declared.Kind.{Kind}
@@ -18,7 +19,7 @@ use Rattle.group_rows.specs.Row.{Y, Z, Found, none, found}
 use Rattle.group_rows.specs.Fitting.{fitting}
 use Rattle.group_rows.proofs.Bools.{both, false_true}
 use Rattle.group.specs.declared.Group.{Group}
-use Rattle.group.specs.declared.GroupJudged.{GroupJudged}
+use Rattle.group.specs.declared.GroupRefused.{GroupRefused}
 use Rattle.group.specs.Balise as received
 use Rattle.group.specs.Distance.{is_preset, no_increase}
 use Rattle.group.specs.Numbers.{number_of}
@@ -155,10 +156,10 @@ accepted g (refuses n) e r q = absurd (reasoned g n e r q)
 pub explains_tied : (g : Group) (r : Reason) (x : AtExit (ended_of 0 explain_kinds.ps explain_kinds.r) tt) → explain_reads.Post tt (g, tt) r x → Explains g r
 explains_tied g r x p = p
 
-pub judges_tied : (g : Group) (j : GroupJudged) (x : AtExit (ended_of 0 judge_kinds.ps judge_kinds.r) tt) → judge_reads.Post tt (g, tt) j x → Judges g j
+pub judges_tied : (g : Group) (j : Result Message GroupRefused) (x : AtExit (ended_of 0 judge_kinds.ps judge_kinds.r) tt) → judge_reads.Post tt (g, tt) j x → Judges g j
 judges_tied g j x p = p
 
-right : (g : Group) (r : Reason) (j : GroupJudged) → Explains g r → Judges g j → Right g (says_group_judged j) (says_reason r)
+right : (g : Group) (r : Reason) (j : Result Message GroupRefused) → Explains g r → Judges g j → Right g (says_group_judged j) (says_reason r)
 right g r j e f = rw (e, f) (of_group g)
 
 pub truths : Truths

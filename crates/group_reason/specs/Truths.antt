@@ -1,7 +1,7 @@
 -- "What it names is proved true, it names the first such balise, and it never gives a reason for a
 -- group that was accepted" (request M-103), over the contracts of `explain` and of `group::judge`.
 -- Assumes nothing.
-use Rattle.std.specs.Prelude.{ℕ, ◌≤◌, ◌<◌, ◌≡◌, ◌⊎◌, true, length}
+use Rattle.std.specs.Prelude.{ℕ, ◌≤◌, ◌<◌, ◌≡◌, ◌⊎◌, true, length, Result}
 use mathlib.Core.List.{List, ◌∷◌, ◌++◌, Memᴰ}
 use Rattle.words.specs.Answer.{Outcome, gives, refuses}
 use Rattle.telegram.specs.Telegram.{BadWord, telegram}
@@ -16,7 +16,7 @@ use Rattle.group_rows.specs.Opening.{Longest}
 use Rattle.group.specs.declared.Heard.{Heard}
 use Rattle.group.specs.declared.Balise.{Balise}
 use Rattle.group.specs.declared.Group.{Group}
-use Rattle.group.specs.declared.GroupJudged.{GroupJudged}
+use Rattle.group.specs.declared.GroupRefused.{GroupRefused}
 use Rattle.group.specs.Balise as received
 use Rattle.group.specs.Distance.{no_increase}
 use Rattle.group.specs.declared.Message.{Message}
@@ -31,7 +31,7 @@ use Rattle.group_reason.specs.Says.{says_reason}
 abbrev pub Explains : Group → Reason → Type 0
 Explains g r = says_reason r ≡ explain g
 
-abbrev pub Judges : Group → GroupJudged → Type 0
+abbrev pub Judges : Group → Result Message GroupRefused → Type 0
 Judges g j = says_group_judged j ≡ judge g
 
 -- The balise stands among these with the index i, counted from 0.
@@ -124,9 +124,9 @@ RefusedWith n = (g : Group) × (judge g ≡ refuses n)
 
 -- What is claimed, for any group that is lent.
 pub record Truths : Type 0 where
-  pub right : (g : Group) (r : Reason) (j : GroupJudged) → Explains g r → Judges g j → Right g (says_group_judged j) (says_reason r)
+  pub right : (g : Group) (r : Reason) (j : Result Message GroupRefused) → Explains g r → Judges g j → Right g (says_group_judged j) (says_reason r)
   -- Only an accepted group has no reason.
-  pub none_if : (g : Group) (r : Reason) (j : GroupJudged) → Explains g r → Judges g j → r ≡ Reason.None → (m : Message) × (says_group_judged j ≡ gives m)
+  pub none_if : (g : Group) (r : Reason) (j : Result Message GroupRefused) → Explains g r → Judges g j → r ≡ Reason.None → (m : Message) × (says_group_judged j ≡ gives m)
   -- There are groups of each sort.
   pub some_10 : RefusedWith 10
   pub some_11 : RefusedWith 11

@@ -1,53 +1,21 @@
 // The balise whose figure breaks the rule of distances.
-ghost use Rattle.std.specs.Prelude.{◌≡◌, ◌≤◌, take, true, not, ◌&&◌};
-ghost use Rattle.group_rows.specs.Row.{Y, Z};
+ghost use Rattle.std.specs.Prelude.{◌≡◌, ◌≤◌, take, not, ◌&&◌};
 ghost use Rattle.group.specs.Distance.{is_preset, no_increase};
+ghost use Rattle.group.specs.Judge.{y_of};
+ghost use Rattle.group.specs.Inside.{says_sought};
 ghost use Rattle.group_reason.specs.Explain.{one_to_fourteen, b_breaks, why_present};
 ghost use Rattle.group_reason.specs.Inside.{sought_from, why_of};
 ghost use Rattle.group_reason.specs.Says.{says_reason};
 
 use crate::Reason;
-use group_rows::{Kind, Part, Placed};
+use group_rows::{Kind, Placed, y_of, z_of};
 
-// A balise that was looked for: whether it is there, and then its index from 0, its place and its
-// figures.
+// A balise that was looked for, if it is there, and its index from 0; where it is not there, how
+// many balises there are.
 #[derive(Clone, Copy)]
 pub struct Sought {
-    pub is: bool,
     pub balise: u8,
-    pub place: u32,
-    pub y: u8,
-    pub z: u8,
-}
-
-// The balise with this index, which is there.
-fn found_at(i: u8, b: Placed) -> Sought
-    ensures { result ≡ record { is = true; balise = i; place = b.place; y = Y b.part; z = Z b.part } }
-{
-    let part = b.part;
-    match part {
-        Part::Figures(_, y, z) => Sought {
-            is: true,
-            balise: i,
-            place: b.place,
-            y,
-            z,
-        },
-        Part::Number(_) => Sought {
-            is: true,
-            balise: i,
-            place: b.place,
-            y: 0,
-            z: 0,
-        },
-        Part::Marker => Sought {
-            is: true,
-            balise: i,
-            place: b.place,
-            y: 0,
-            z: 0,
-        },
-    }
+    pub found: Option<Placed>,
 }
 
 // The first of the first n balises that is of category c.
@@ -55,21 +23,19 @@ fn first_of(p: [Placed; 5], n: usize, c: u8) -> Sought
     requires { n ≤ 5 }
     ensures { result ≡ sought_from c 0 (take n p) }
 {
-    let mut i = 0;
-    while i < n {
+    for i in 0..n {
         let b = p[i];
         let part = b.part;
         if group_rows::is_category(part, c) {
-            return found_at(i as u8, b);
+            return Sought {
+                balise: i as u8,
+                found: Some(b),
+            };
         }
-        i += 1;
     }
     Sought {
-        is: false,
-        balise: i as u8,
-        place: 0,
-        y: 0,
-        z: 0,
+        balise: n as u8,
+        found: None,
     }
 }
 
@@ -91,37 +57,32 @@ fn b_breaks(by: u8, bz: u8, with: bool) -> bool
     }
 }
 
-// Whether AZ, as read, is a target that a preset point cannot have.
-fn no_increase(az: u8) -> bool
-    ensures { result ≡ no_increase az }
-{
-    (az == 0) | (az == 1) | (az == 13)
-}
-
 // Whether B breaks M-101's rule: a preset point with such a target.
-fn is_barred(by: u8, az: u8) -> bool
-    ensures { result ≡ is_preset by && no_increase az }
+fn is_barred(b: Sought, az: u8) -> bool
+    ensures { result ≡ is_preset (y_of (says_sought b.found)) && no_increase az }
 {
-    (by == 14) & no_increase(az)
+    (b.found.map_or(0, |b| y_of(b.part)) == 14) & group::no_increase(az)
 }
 
 // By B and then by C, with M-101's rule broken or not.
 fn of_both(barred: bool, b: Sought, c: Sought) -> Reason
     ensures { says_reason result ≡ why_of barred b c }
 {
-    if barred | b_breaks(b.y, b.z, c.is) {
+    let by = b.found.map_or(0, |b| y_of(b.part));
+    let bz = b.found.map_or(0, |b| z_of(b.part));
+    if barred | b_breaks(by, bz, c.found.is_some()) {
         return Reason::NoDistance {
             balise: b.balise,
-            place: b.place,
+            place: b.found.map_or(0, |b| b.place),
         };
     }
-    if c.is & beyond(c.y) {
-        return Reason::NoDistance {
+    match c.found {
+        Some(found) if beyond(y_of(found.part)) => Reason::NoDistance {
             balise: c.balise,
-            place: c.place,
-        };
+            place: found.place,
+        },
+        _ => Reason::None,
     }
-    Reason::None
 }
 
 // Why a present group of this kind and AZ was refused, or no reason.
@@ -132,7 +93,7 @@ pub fn why_present(kind: Kind, az: u8, p: [Placed; 5], n: usize) -> Reason
     match kind {
         Kind::Signal => {
             let b = first_of(p, n, 9);
-            of_both(is_barred(b.y, az), b, first_of(p, n, 14))
+            of_both(is_barred(b, az), b, first_of(p, n, 14))
         }
         Kind::Warning => of_both(false, first_of(p, n, 9), first_of(p, n, 14)),
         Kind::Annulled => Reason::None,

@@ -70,17 +70,13 @@ pub fn explain(group: Group) -> Reason
         return Reason::Many(count);
     }
     let n = count as usize;
-    let all = reading::read_all(kept, n);
-    let parts = all.parts;
-    let bad = all.bad;
-    if all.good {
-        rows::why_fit(parts, n)
-    } else {
-        Reason::Unread {
-            balise: all.balise,
-            place: all.place,
-            bad,
-        }
+    match reading::read_all(kept, n) {
+        Ok(parts) => rows::why_fit(parts, n),
+        Err(unread) => Reason::Unread {
+            balise: unread.balise,
+            place: unread.place,
+            bad: unread.bad,
+        },
     }
 }
 

@@ -7,21 +7,11 @@ ghost use Rattle.group_reason.specs.Inside.{says_part_read, says_all_read};
 use crate::BadBalise;
 use group::{Balise, Heard};
 use group_rows::{Part, Placed};
-use telegram::{Telegram, TelegramRead};
+use telegram::{BadWord, Telegram};
 
-// What reading a balise answers: it as read, or what is bad about it.
+// The first bad balise of a group: its index from 0, its place, and what is bad about it.
 #[derive(Clone, Copy)]
-pub enum PartRead {
-    Is(Part),
-    Refused(BadBalise),
-}
-
-// What reading the balises of a group answers: the balises and good, or the first bad one, its
-// place and what is bad.
-#[derive(Clone, Copy)]
-pub struct AllRead {
-    pub good: bool,
-    pub parts: [Placed; 5],
+pub struct Unread {
     pub balise: u8,
     pub place: u32,
     pub bad: BadBalise,
@@ -38,17 +28,17 @@ fn part_of(t: Telegram) -> Part
 }
 
 // What was heard, read, or what is bad about it.
-fn part_heard(heard: Heard) -> PartRead
+fn part_heard(heard: Heard) -> Result<Part, BadBalise>
     ensures { says_part_read result ≡ part_or_bad heard }
 {
     match heard {
         Heard::Words(x, y, z) => match telegram::read(x, y, z) {
-            TelegramRead::Is(t) => PartRead::Is(part_of(t)),
-            TelegramRead::NotCode(w, p) => PartRead::Refused(BadBalise::NotCode(w, p)),
-            TelegramRead::Fifteen(w) => PartRead::Refused(BadBalise::Fifteen(w)),
+            Ok(t) => Ok(part_of(t)),
+            Err(BadWord::NotCode(w, p)) => Err(BadBalise::NotCode(w, p)),
+            Err(BadWord::Fifteen(w)) => Err(BadBalise::Fifteen(w)),
         },
-        Heard::Marker => PartRead::Is(Part::Marker),
-        Heard::Unreadable => PartRead::Refused(BadBalise::Unreadable),
+        Heard::Marker => Ok(Part::Marker),
+        Heard::Unreadable => Err(BadBalise::Unreadable),
     }
 }
 
@@ -59,39 +49,29 @@ const NO_PARTS: [Placed; 5] = [Placed {
 }; 5];
 
 // The first n balises read, or the first bad one.
-pub fn read_all(kept: [Balise; 5], n: usize) -> AllRead
+pub fn read_all(kept: [Balise; 5], n: usize) -> Result<[Placed; 5], Unread>
     requires { n ≤ 5 }
     ensures { says_all_read n result ≡ read_from 0 (take n kept) }
 {
     let mut parts = NO_PARTS;
-    let mut i = 0;
-    while i < n {
+    for i in 0..n {
         let b = kept[i];
         let heard = b.heard;
         match part_heard(heard) {
-            PartRead::Is(part) => {
+            Ok(part) => {
                 parts[i] = Placed {
                     place: b.place,
                     part,
                 };
             }
-            PartRead::Refused(bad) => {
-                return AllRead {
-                    good: false,
-                    parts,
+            Err(bad) => {
+                return Err(Unread {
                     balise: i as u8,
                     place: b.place,
                     bad,
-                };
+                });
             }
         }
-        i += 1;
     }
-    AllRead {
-        good: true,
-        parts,
-        balise: 0,
-        place: 0,
-        bad: BadBalise::Unreadable,
-    }
+    Ok(parts)
 }

@@ -1,23 +1,11 @@
 // By the row that the balises fit, or how far they open one.
 ghost use Rattle.std.specs.Prelude.{◌≡◌, ◌≤◌, take};
-ghost use Rattle.group_rows.specs.Row.{Z};
 ghost use Rattle.group_rows.specs.Fitting.{fitting};
 ghost use Rattle.group_reason.specs.Explain.{why_row, why_fit};
 ghost use Rattle.group_reason.specs.Says.{says_reason};
 
 use crate::{Reason, figures};
-use group_rows::{Direction, Fitted, Part, Picked, Placed};
-
-// The figure Z of a balise, 0 if it has none.
-fn z_of(part: Part) -> u8
-    ensures { result ≡ Z part }
-{
-    match part {
-        Part::Figures(_, _, z) => z,
-        Part::Number(_) => 0,
-        Part::Marker => 0,
-    }
-}
+use group_rows::{Direction, NoRow, Picked, Placed, z_of};
 
 // Why balises that fit this row were refused, or no reason.
 fn why_row(row: Picked, p: [Placed; 5], n: usize) -> Reason
@@ -40,8 +28,8 @@ pub fn why_fit(p: [Placed; 5], n: usize) -> Reason
     ensures { says_reason result ≡ why_fit (fitting (take n p)) (take n p) }
 {
     match group_rows::fit(p, n) {
-        Fitted::Is(row) => why_row(row, p, n),
-        Fitted::NoRow => Reason::NoRow {
+        Ok(row) => why_row(row, p, n),
+        Err(NoRow) => Reason::NoRow {
             run: group_rows::opening(p, n) as u8,
             of: n as u8,
         },

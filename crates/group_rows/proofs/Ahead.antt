@@ -21,22 +21,6 @@ module _ {A : Type 0} where
       let c : length (drop 1 q ++ drop 4 q) ≡ length (drop 1 q) + length (drop 4 q) = length-append (drop 1 q) (drop 4 q) in
       omega arith
 
-  -- They are the second to the fifth, and the fifth.
-  pub one_by_one : (q : List A) (d : A) → length q ≡ 5
-      → get_or q 1 d ∷ get_or q 2 d ∷ get_or q 3 d ∷ get_or q 4 d ∷ get_or q 4 d ∷ [] ≡ onward q
-  one_by_one q d h =
-      let h1 : 1 < length q = omega arith in
-      let h2 : 2 < length q = omega arith in
-      let h3 : 3 < length q = omega arith in
-      let h4 : 4 < length q = omega arith in
-      let h5 : length q ≤ 5 = omega arith in
-      let last : drop 4 q ≡ get_or q 4 d ∷ [] = drop-cons q 4 d h4 ∙ ap (λ (l : List A). get_or q 4 d ∷ l) (drop_of_length-le q h5) in
-      let four : drop 1 q ≡ get_or q 1 d ∷ get_or q 2 d ∷ get_or q 3 d ∷ get_or q 4 d ∷ [] =
-      drop-cons q 1 d h1
-      ∙ ap (λ (l : List A). get_or q 1 d ∷ l)
-      (drop-cons q 2 d h2 ∙ ap (λ (l : List A). get_or q 2 d ∷ l) (drop-cons q 3 d h3 ∙ ap (λ (l : List A). get_or q 3 d ∷ l) last)) in
-      sym (ap (λ (l : List A). l ++ drop 4 q) four ∙ ap (λ (l : List A). get_or q 1 d ∷ get_or q 2 d ∷ get_or q 3 d ∷ get_or q 4 d ∷ l) last)
-
   -- The first of them, and the others.
   pub first_then : (q : List A) (m : ℕ) (d : A) → length q ≡ 5 → m < 5 → take (suc m) q ≡ get_or q 0 d ∷ take m (onward q)
   first_then [] m d h l = absurd (omega (arith, h))

@@ -10,14 +10,14 @@ use lib.Dec.{ltb}
 use borrow.Author.Tests.{ltb-true, ltb-false}
 use lib.ListN.{length, take, drop, take-append-drop}
 use lib.Seq.{take_all, take-take, length-take-le}
+use Rattle.std.specs.Prelude.{Err}
 use Rattle.words.specs.Answer.{pick}
 use Rattle.group_rows.specs.declared.Kind.{Kind}
 use Rattle.group_rows.specs.declared.Placed.{Placed}
-use Rattle.group_rows.specs.declared.Fitted.{Fitted}
 use Rattle.group_rows.specs.declared.running.Run.{Run}
 use Rattle.group_rows.specs.Row.{Fit, misfit, fit}
 use Rattle.group_rows.specs.Rows.{fit_in}
-use Rattle.group_rows.specs.Fitting.{rows_for, fitting, says_fitted}
+use Rattle.group_rows.specs.Fitting.{rows_for, fitting, no_row, says_fitted}
 use Rattle.group_rows.specs.Stands.{rows_of, ended}
 use Rattle.group_rows.specs.Opening.{Opens, Longest, Ran}
 use Rattle.group_rows.proofs.Laws.{at_end}
@@ -85,7 +85,7 @@ module _ (p : List Placed) (n few : ℕ) (long : length p ≡ 5) (is : few ≡ p
         }
 
     -- A walk that stopped before the end found no row.
-    pub stopped : r.count < few → says_fitted Fitted.NoRow ≡ fitting (take n p)
+    pub stopped : r.count < few → says_fitted (Err no_row) ≡ fitting (take n p)
     stopped h =
         let next : r.count + 1 ≤ few = omega arith in
         nothing_fits (take n p) (λ way.

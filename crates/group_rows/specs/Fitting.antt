@@ -1,12 +1,12 @@
 -- The row that a group fits, of either direction, and what the row says (document 01, "Groups").
 -- Assumes nothing.
-use Rattle.std.specs.Prelude.{ℕ, ◌*◌, List, eqb}
+use Rattle.std.specs.Prelude.{ℕ, ◌*◌, List, eqb, Result, Ok, Err}
 use Rattle.words.specs.Answer.{Outcome, gives, refuses, pick}
 use Rattle.group_rows.specs.declared.Direction.{Direction}
 use Rattle.group_rows.specs.declared.Kind.{Kind}
 use Rattle.group_rows.specs.declared.Placed.{Placed}
 use Rattle.group_rows.specs.declared.Picked.{Picked}
-use Rattle.group_rows.specs.declared.Fitted.{Fitted}
+use Rattle.group_rows.specs.declared.NoRow.{NoRow}
 use Rattle.group_rows.specs.Row.{Row, Y, Z, Fit, misfit, fit}
 use Rattle.group_rows.specs.Rows.{present, opposite, fit_in}
 
@@ -38,7 +38,11 @@ as_or direction (fit kind a) other = gives (record { direction = direction; kind
 unfoldable pub fitting : List Placed → Outcome Picked
 fitting bs = as_or Direction.Present (fit_in present bs) (as_or Direction.Opposite (fit_in opposite bs) (refuses 13))
 
+-- No row fits; there is nothing more to say of it.
+abbrev pub no_row : NoRow
+no_row = record {}
+
 -- The row's word, or 13 of document 01's table.
-abbrev pub says_fitted : Fitted → Outcome Picked
-says_fitted (Fitted.Is p) = gives p
-says_fitted Fitted.NoRow = refuses 13
+abbrev pub says_fitted : Result Picked NoRow → Outcome Picked
+says_fitted (Ok p) = gives p
+says_fitted (Err e) = refuses 13

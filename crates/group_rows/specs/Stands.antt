@@ -1,19 +1,19 @@
 -- Where a walk over the balises of a group stands: for each case what it leaves of the rows. No
 -- promise to a caller cites this; the functions that the walk is cut into do.
 -- Assumes nothing.
-use Rattle.std.specs.Prelude.{List, [], ◌∷◌, ◌++◌}
+use Rattle.std.specs.Prelude.{List, [], ◌∷◌, ◌++◌, Option, Some, None, Result, Ok, Err}
 use Rattle.group_rows.specs.declared.Direction.{Direction}
 use Rattle.group_rows.specs.declared.Kind.{Kind}
 use Rattle.group_rows.specs.declared.Picked.{Picked}
-use Rattle.group_rows.specs.declared.Fitted.{Fitted}
+use Rattle.group_rows.specs.declared.NoRow.{NoRow}
 use Rattle.group_rows.specs.declared.stands.Before.{Before}
 use Rattle.group_rows.specs.declared.stands.Must.{Must}
 use Rattle.group_rows.specs.declared.stands.May.{May}
 use Rattle.group_rows.specs.declared.stands.Tail.{Tail}
 use Rattle.group_rows.specs.declared.stands.Walk.{Walk}
-use Rattle.group_rows.specs.declared.stands.Step.{Step}
 use Rattle.group_rows.specs.Row.{all, ◌to◌, category, any, one_of, M, Member, A, must, may, none, found}
 use Rattle.group_rows.specs.Rows.{present, opposite}
+use Rattle.group_rows.specs.Fitting.{no_row}
 use Rattle.group_rows.specs.Open.{Rest, rest, whole}
 
 -- ---- after A
@@ -91,12 +91,12 @@ rows_of (Walk.After (Tail.Must next) p) = with_rest p (must_be next) ∷ []
 rows_of (Walk.After (Tail.May next) p) = with_rest p (may_be next) ∷ []
 
 -- What a step leaves open.
-abbrev pub open_after : Step → List Rest
-open_after (Step.To at) = rows_of at
-open_after Step.Shut = []
+abbrev pub open_after : Option Walk → List Rest
+open_after (Some at) = rows_of at
+open_after None = []
 
 -- The row of a group that ends here.
-abbrev pub ended : Walk → Fitted
-ended (Walk.Before passed) = Fitted.NoRow
-ended (Walk.After (Tail.Must next) p) = Fitted.NoRow
-ended (Walk.After (Tail.May next) p) = Fitted.Is p
+abbrev pub ended : Walk → Result Picked NoRow
+ended (Walk.Before passed) = Err no_row
+ended (Walk.After (Tail.Must next) p) = Err no_row
+ended (Walk.After (Tail.May next) p) = Ok p

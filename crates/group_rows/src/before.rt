@@ -4,11 +4,11 @@ ghost use Rattle.group_rows.specs.Open.{after};
 ghost use Rattle.group_rows.specs.Stands.{rows_before, open_after};
 
 use crate::picks::{line, opposite, present, route, to};
-use crate::stands::{Before, May, Must, Step};
+use crate::stands::{Before, May, Must, Walk};
 use crate::{Kind, Part, Placed, is_category};
 
 // The balise after a 12 and an 8.
-fn after_both(b: Placed) -> Step
+fn after_both(b: Placed) -> Option<Walk>
     ensures { open_after result ≡ after (rows_before Before.NumberEight) b }
 {
     let part = b.part;
@@ -16,15 +16,15 @@ fn after_both(b: Placed) -> Step
         Part::Figures(x, _, _) => match x {
             1 | 4 => present(Kind::Signal, 0, Must::Nine, b),
             10 => present(Kind::Annulled, 0, Must::Nine, b),
-            _ => Step::Shut,
+            _ => None,
         },
-        Part::Number(_) => Step::Shut,
-        Part::Marker => Step::Shut,
+        Part::Number(_) => None,
+        Part::Marker => None,
     }
 }
 
 // The balise after an 8.
-fn after_eight(b: Placed) -> Step
+fn after_eight(b: Placed) -> Option<Walk>
     ensures { open_after result ≡ after (rows_before Before.Eight) b }
 {
     let part = b.part;
@@ -32,17 +32,17 @@ fn after_eight(b: Placed) -> Step
         Part::Figures(x, _, z) => match x {
             2 => match z {
                 0..=13 => present(Kind::Warning, 0, Must::LowNine, b),
-                _ => Step::Shut,
+                _ => None,
             },
             _ => after_both(b),
         },
-        Part::Number(_) => Step::Shut,
-        Part::Marker => Step::Shut,
+        Part::Number(_) => None,
+        Part::Marker => None,
     }
 }
 
 // The balise after a 12.
-fn after_number(b: Placed) -> Step
+fn after_number(b: Placed) -> Option<Walk>
     ensures { open_after result ≡ after (rows_before Before.Number) b }
 {
     let part = b.part;
@@ -53,13 +53,13 @@ fn after_number(b: Placed) -> Step
             9 => to(Before::BackNine),
             _ => after_both(b),
         },
-        Part::Number(_) => Step::Shut,
+        Part::Number(_) => None,
         Part::Marker => to(Before::BackNumberMarker),
     }
 }
 
 // The first balise.
-fn from_nothing(b: Placed) -> Step
+fn from_nothing(b: Placed) -> Option<Walk>
     ensures { open_after result ≡ after (rows_before Before.Nothing) b }
 {
     let part = b.part;
@@ -79,7 +79,7 @@ fn from_nothing(b: Placed) -> Step
 }
 
 // The balise after the 9 of an opposite row.
-fn after_nine(b: Placed) -> Step
+fn after_nine(b: Placed) -> Option<Walk>
     ensures { open_after result ≡ after (rows_before Before.BackNine) b }
 {
     let part = b.part;
@@ -88,15 +88,15 @@ fn after_nine(b: Placed) -> Step
             1 | 4 => opposite(Kind::Signal, May::Eight, b),
             10 => opposite(Kind::Annulled, May::Eight, b),
             2 => opposite(Kind::Warning, May::Nothing, b),
-            _ => Step::Shut,
+            _ => None,
         },
-        Part::Number(_) => Step::Shut,
-        Part::Marker => Step::Shut,
+        Part::Number(_) => None,
+        Part::Marker => None,
     }
 }
 
 // The balise after the marker that opens an opposite row.
-fn after_marker(b: Placed) -> Step
+fn after_marker(b: Placed) -> Option<Walk>
     ensures { open_after result ≡ after (rows_before Before.BackMarker) b }
 {
     let part = b.part;
@@ -105,17 +105,17 @@ fn after_marker(b: Placed) -> Step
             2 => opposite(Kind::Warning, May::Nothing, b),
             3 => match y {
                 9..=14 => opposite(Kind::Line, May::Nothing, b),
-                _ => Step::Shut,
+                _ => None,
             },
-            _ => Step::Shut,
+            _ => None,
         },
-        Part::Number(_) => Step::Shut,
-        Part::Marker => Step::Shut,
+        Part::Number(_) => None,
+        Part::Marker => None,
     }
 }
 
 // Where the walk stands after one balise more.
-pub fn next(at: Before, b: Placed) -> Step
+pub fn next(at: Before, b: Placed) -> Option<Walk>
     ensures { open_after result ≡ after (rows_before at) b }
 {
     let part = b.part;
@@ -128,7 +128,7 @@ pub fn next(at: Before, b: Placed) -> Step
             if is_category(part, 9) {
                 to(Before::BackNine)
             } else {
-                Step::Shut
+                None
             }
         }
         Before::BackNine => after_nine(b),
@@ -137,7 +137,7 @@ pub fn next(at: Before, b: Placed) -> Step
             if is_category(part, 2) {
                 opposite(Kind::Warning, May::Nothing, b)
             } else {
-                Step::Shut
+                None
             }
         }
     }

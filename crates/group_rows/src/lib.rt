@@ -10,7 +10,7 @@
 
 ghost use Rattle.std.specs.Prelude.{◌≡◌, ltb, ◌++◌, take, drop};
 ghost use Rattle.words.specs.Answer.{pick};
-ghost use Rattle.group_rows.specs.Row.{is_category};
+ghost use Rattle.group_rows.specs.Row.{is_category, Y, Z};
 ghost use Rattle.group_rows.specs.Fitting.{fitting, says_fitted};
 ghost use Rattle.group_rows.specs.Opening.{Longest};
 
@@ -62,12 +62,9 @@ pub struct Picked {
     pub a: Placed,
 }
 
-// What fitting balises to the rows answers: what the row says, or refusal 13.
-#[derive(Clone, Copy)]
-pub enum Fitted {
-    Is(Picked),
-    NoRow,
-}
+// Refusal 13: no row fits.
+#[derive(Clone, Copy, PartialEq, Eq)]
+pub struct NoRow;
 
 // Whether a balise is of category c; a number balise is a 12, a marker is of none.
 pub fn is_category(part: Part, c: u8) -> bool
@@ -80,8 +77,30 @@ pub fn is_category(part: Part, c: u8) -> bool
     }
 }
 
-// The balises after the first; the last stands twice, so that they are five again.
-pub fn after_first(p: [Placed; 5]) -> [Placed; 5]
+// The figure Y of a balise; a number balise and a marker have none: 0.
+pub fn y_of(part: Part) -> u8
+    ensures { result ≡ Y part }
+{
+    match part {
+        Part::Figures(_, y, _) => y,
+        Part::Number(_) => 0,
+        Part::Marker => 0,
+    }
+}
+
+// The figure Z of a balise; a number balise and a marker have none: 0.
+pub fn z_of(part: Part) -> u8
+    ensures { result ≡ Z part }
+{
+    match part {
+        Part::Figures(_, _, z) => z,
+        Part::Number(_) => 0,
+        Part::Marker => 0,
+    }
+}
+
+// The five after the first; the last stands twice, so that they are five again.
+pub fn after_first<T: Copy>(p: [T; 5]) -> [T; 5]
     ensures { result ≡ drop 1 p ++ drop 4 p }
 {
     [p[1], p[2], p[3], p[4], p[4]]
@@ -96,13 +115,13 @@ fn at_most_five(n: usize) -> usize
 
 // What the row says that the first n balises fit: direction, kind, the speed of a route board, and
 // A; or refusal 13.
-pub fn fit(p: [Placed; 5], n: usize) -> Fitted
+pub fn fit(p: [Placed; 5], n: usize) -> Result<Picked, NoRow>
     ensures { says_fitted result ≡ fitting (take n p) }
 {
     let few = at_most_five(n);
     let run = running::follow(p, few);
     if run.count < few {
-        return Fitted::NoRow;
+        return Err(NoRow);
     }
     let at = run.at;
     running::end_at(at)

@@ -4,15 +4,15 @@ ghost use Rattle.group_rows.specs.Row.{found};
 ghost use Rattle.group_rows.specs.Open.{rest, after};
 ghost use Rattle.group_rows.specs.Stands.{must_be, may_be, rows_before, open_after};
 
-use crate::stands::{Before, May, Must, Step, Tail, Walk};
+use crate::stands::{Before, May, Must, Tail, Walk};
 use crate::{Direction, Kind, Part, Picked, Placed};
 
 // The balise is A of a present row of this kind and speed, with this to come.
-pub fn present(kind: Kind, speed: u16, next: Must, a: Placed) -> Step
+pub fn present(kind: Kind, speed: u16, next: Must, a: Placed) -> Option<Walk>
     ensures { open_after result ≡ rest Direction.Present kind speed (found a) (must_be next) ∷ [] }
 {
     let direction = Direction::Present;
-    Step::To(Walk::After(
+    Some(Walk::After(
         Tail::Must(next),
         Picked {
             direction,
@@ -24,11 +24,11 @@ pub fn present(kind: Kind, speed: u16, next: Must, a: Placed) -> Step
 }
 
 // The balise is A of an opposite row of this kind, with this to come.
-pub fn opposite(kind: Kind, next: May, a: Placed) -> Step
+pub fn opposite(kind: Kind, next: May, a: Placed) -> Option<Walk>
     ensures { open_after result ≡ rest Direction.Opposite kind 0 (found a) (may_be next) ∷ [] }
 {
     let direction = Direction::Opposite;
-    Step::To(Walk::After(
+    Some(Walk::After(
         Tail::May(next),
         Picked {
             direction,
@@ -40,42 +40,42 @@ pub fn opposite(kind: Kind, next: May, a: Placed) -> Step
 }
 
 // To this stand before A.
-pub fn to(at: Before) -> Step
+pub fn to(at: Before) -> Option<Walk>
     ensures { open_after result ≡ rows_before at }
 {
-    Step::To(Walk::Before(at))
+    Some(Walk::Before(at))
 }
 
 // A 3 as the first balise: a line speed board by AY and AZ.
-pub fn line(y: u8, z: u8, b: Placed) -> Step
+pub fn line(y: u8, z: u8, b: Placed) -> Option<Walk>
     ensures { b.part ≡ Part.Figures 3 y z → open_after result ≡ after (rows_before Before.Nothing) b }
 {
     match y {
         0..=8 => match z {
             0..=13 => present(Kind::Line, 0, Must::Five, b),
-            _ => Step::Shut,
+            _ => None,
         },
         9..=14 => match z {
             0..=13 => present(Kind::Line, 0, Must::Marker, b),
-            _ => Step::Shut,
+            _ => None,
         },
-        _ => Step::Shut,
+        _ => None,
     }
 }
 
 // A 5 as the first balise: a route board, its speed by AY and AZ.
-pub fn route(y: u8, z: u8, b: Placed) -> Step
+pub fn route(y: u8, z: u8, b: Placed) -> Option<Walk>
     ensures { b.part ≡ Part.Figures 5 y z → open_after result ≡ after (rows_before Before.Nothing) b }
 {
     match y {
         2 => match z {
             0..=13 => present(Kind::Route, 10 * z as u16, Must::ThreeFiveSeven, b),
-            _ => Step::Shut,
+            _ => None,
         },
         4 => match z {
             10 => present(Kind::Route, 140, Must::ThreeFiveSeven, b),
-            _ => Step::Shut,
+            _ => None,
         },
-        _ => Step::Shut,
+        _ => None,
     }
 }

@@ -4,11 +4,11 @@ ghost use Rattle.group_rows.specs.Open.{after};
 ghost use Rattle.group_rows.specs.Stands.{rows_of, open_after, ended};
 ghost use Rattle.group_rows.specs.Opening.{Ran};
 
-use crate::stands::{Before, Step, Tail, Walk};
-use crate::{Fitted, Placed, after_first, before, is_category, tails};
+use crate::stands::{Before, Tail, Walk};
+use crate::{NoRow, Picked, Placed, after_first, before, is_category, tails};
 
 // Where the walk stands after one balise more.
-fn next(at: Walk, b: Placed) -> Step
+fn next(at: Walk, b: Placed) -> Option<Walk>
     ensures { open_after result ≡ after (rows_of at) b }
 {
     match at {
@@ -21,14 +21,14 @@ fn next(at: Walk, b: Placed) -> Step
 }
 
 // The row of a group that ends here, or refusal 13.
-pub fn end_at(at: Walk) -> Fitted
+pub fn end_at(at: Walk) -> Result<Picked, NoRow>
     ensures { result ≡ ended at }
 {
     match at {
-        Walk::Before(_) => Fitted::NoRow,
+        Walk::Before(_) => Err(NoRow),
         Walk::After(tail, picked) => match tail {
-            Tail::Must(_) => Fitted::NoRow,
-            Tail::May(_) => Fitted::Is(picked),
+            Tail::Must(_) => Err(NoRow),
+            Tail::May(_) => Ok(picked),
         },
     }
 }
@@ -49,8 +49,7 @@ pub fn follow(p: [Placed; 5], n: usize) -> Run
     let mut at = Walk::Before(Before::Nothing);
     let mut left = 1usize;
     let mut ahead = p;
-    let mut i = 0;
-    while i < n {
+    for i in 0..n {
         let b = ahead[0];
         let part = b.part;
         if is_category(part, 12) {
@@ -59,12 +58,11 @@ pub fn follow(p: [Placed; 5], n: usize) -> Run
             }
             left -= 1;
         }
-        let Step::To(to) = next(at, b) else {
+        let Some(to) = next(at, b) else {
             return Run { at, count: i };
         };
         at = to;
         ahead = after_first(ahead);
-        i += 1;
     }
-    Run { at, count: i }
+    Run { at, count: n }
 }

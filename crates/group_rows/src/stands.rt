@@ -46,10 +46,3 @@ pub enum Walk {
     Before(Before),
     After(Tail, Picked),
 }
-
-// What one balise more answers: no row is open any more, or where the walk stands.
-#[derive(Clone, Copy)]
-pub enum Step {
-    Shut,
-    To(Walk),
-}

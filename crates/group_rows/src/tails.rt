@@ -5,7 +5,7 @@ ghost use Rattle.group_rows.specs.Row.{all, ◌to◌, category, one_of, M, meets
 ghost use Rattle.group_rows.specs.Open.{after};
 ghost use Rattle.group_rows.specs.Stands.{must_be, may_be, with_rest, open_after};
 
-use crate::stands::{May, Must, Step, Tail, Walk};
+use crate::stands::{May, Must, Tail, Walk};
 use crate::{Part, Picked, Placed, is_category};
 
 // Whether a balise is a 9 with Y 0 to 13.
@@ -51,18 +51,18 @@ fn is_three_five_seven(part: Part) -> bool
 }
 
 // To this, if so.
-fn to_if(so: bool, next: May, picked: Picked) -> Step
+fn to_if(so: bool, next: May, picked: Picked) -> Option<Walk>
     ensures { open_after result ≡ pick so (with_rest picked (may_be next) ∷ []) [] }
 {
     if so {
-        Step::To(Walk::After(Tail::May(next), picked))
+        Some(Walk::After(Tail::May(next), picked))
     } else {
-        Step::Shut
+        None
     }
 }
 
 // Where the walk stands after one balise more, if this must come next.
-pub fn must_next(must: Must, picked: Picked, b: Placed) -> Step
+pub fn must_next(must: Must, picked: Picked, b: Placed) -> Option<Walk>
     ensures { open_after result ≡ after (with_rest picked (must_be must) ∷ []) b }
 {
     let part = b.part;
@@ -76,19 +76,19 @@ pub fn must_next(must: Must, picked: Picked, b: Placed) -> Step
 }
 
 // The same where an optional c and then an optional 12 may come.
-fn optional(c: u8, picked: Picked, b: Placed) -> Step
+fn optional(c: u8, picked: Picked, b: Placed) -> Option<Walk>
     requires { c ≡ 12 → ⊥ }
     ensures { open_after result ≡ after (with_rest picked (may (any c) ∷ may (any 12) ∷ []) ∷ []) b }
 {
     let part = b.part;
     if is_category(part, c) {
-        return Step::To(Walk::After(Tail::May(May::Twelve), picked));
+        return Some(Walk::After(Tail::May(May::Twelve), picked));
     }
     to_if(is_category(part, 12), May::Nothing, picked)
 }
 
 // Where the walk stands after one balise more, if this may come next.
-pub fn may_next(may: May, picked: Picked, b: Placed) -> Step
+pub fn may_next(may: May, picked: Picked, b: Placed) -> Option<Walk>
     ensures { open_after result ≡ after (with_rest picked (may_be may) ∷ []) b }
 {
     let part = b.part;
@@ -96,6 +96,6 @@ pub fn may_next(may: May, picked: Picked, b: Placed) -> Step
         May::Fourteen => optional(14, picked, b),
         May::Eight => optional(8, picked, b),
         May::Twelve => to_if(is_category(part, 12), May::Nothing, picked),
-        May::Nothing => Step::Shut,
+        May::Nothing => None,
     }
 }

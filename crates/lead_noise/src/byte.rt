@@ -36,11 +36,9 @@ pub fn with_noise(x: u32, chance: u32, byte: u8) -> Noisy
 {
     let mut here = x;
     let mut made: u32 = 0;
-    let mut i: u32 = 0;
-    while i < 8 {
+    for i in 0..8u32 {
         here = next(here);
         made = made * 2 + heard(here, chance, (byte >> (7 - i)) % 2) as u32;
-        i += 1;
     }
     Noisy {
         byte: made as u8,

@@ -10,14 +10,12 @@ pub fn over(x: u32, chance: u32, lead: &mut [u8]) -> u32
 {
     let end = lead.len() / 16 * 16;
     let mut here = x;
-    let mut i = 0;
-    while i < end {
+    for i in 0..end {
         if i % 16 >= 4 {
             let noisy = byte::with_noise(here, chance, lead[i]);
             lead[i] = noisy.byte;
             here = noisy.x;
         }
-        i += 1;
     }
     here
 }

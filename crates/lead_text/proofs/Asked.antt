@@ -15,11 +15,11 @@ use Rattle.ride.specs.declared.Ride.{Ride}
 use Rattle.ride.specs.Record.{odometer_of}
 use Rattle.ride.specs.Step.{Step, treat}
 use Rattle.recording.specs.declared.Tape.{Tape}
-use Rattle.recording.specs.declared.Came.{Came}
+use Rattle.std.specs.Prelude.{Option, Some, None}
 use Rattle.recording.specs.declared.Taken.{Taken}
 use Rattle.recording.specs.Recording.{Taped, the_end_meant}
 use Rattle.recording.specs.Asking.{Going, gave, used_up, go_on, Ending, one, none, finish, of_ending}
-use Rattle.recording.specs.Says.{Went, went, says_came, says_taken}
+use Rattle.recording.specs.Says.{says_came, says_taken}
 use Rattle.recording.specs.Laws.{then_taped, then_ended}
 use Rattle.recording.proofs.Asking.{asked_on, end_asked}
 use Rattle.ride_text.specs.Style.{with_reasons}
@@ -104,11 +104,11 @@ module _ (ends : Bool) (store : Store) (frames : List ℕ) where
   from_either u at out =
       from_here (gap_at store) u.ride u.number at (rest ends store frames (place_of u)) (last ends store frames (place_of u)) (up_to ends store frames (place_of u)) out
 
-  module _ (u : Underway) (at : ℕ) (out : List ℕ) (w : Taken) (says : says_taken w ≡ went (coming ends store frames (place_of u))) where
-    came_is : (c : Came) → w.came ≡ c → Follows ends store frames (place_of u) (says_came c w.tape w.frame w.bit w.bytes)
+  module _ (u : Underway) (at : ℕ) (out : List ℕ) (w : Taken) (says : says_taken w ≡ coming ends store frames (place_of u)) where
+    came_is : (c : Option (List ℕ)) → w.came ≡ c → Follows ends store frames (place_of u) (says_came c w.tape w.frame w.bit)
     came_is c e =
         subst (Follows ends store frames (place_of u))
-        (sym (ap (λ (x : Went). x.going) says) ∙ ap (λ (k : Came). says_came k w.tape w.frame w.bit w.bytes) e)
+        (sym says ∙ ap (λ (k : Option (List ℕ)). says_came k w.tape w.frame w.bit) e)
         (follows ends store frames (place_of u))
 
     -- the same listing by other records, and by another last place
@@ -116,38 +116,38 @@ module _ (ends : Bool) (store : Store) (frames : List ℕ) where
     by rs p = from_here (gap_at store) u.ride u.number at rs p (up_to ends store frames (place_of u)) out
 
     -- No record came: all is used.
-    pub all_used : w.came ≡ Came.Nothing → listing at true (taken_to w) u.ride u.number out ≡ from_either u at out
+    pub all_used : w.came ≡ None → listing at true (taken_to w) u.ride u.number out ≡ from_either u at out
     all_used e =
-        let f = came_is Came.Nothing e in
+        let f = came_is None e in
         sym (ap (λ (rs : List (List ℕ)). by rs (last ends store frames (place_of u))) f.0
         ∙ ap (by []) f.1
         ∙ from_last (gap_at store) u.ride u.number at (taken_to w) (up_to ends store frames (place_of u)) out)
 
     -- What is left falls.
-    pub fewer : w.came ≡ Came.Record → length (rest ends store frames (taken_to w)) < length (rest ends store frames (place_of u))
-    fewer e = omega (arith, ap length (came_is Came.Record e).0)
+    pub fewer : (bytes : List ℕ) → w.came ≡ Some bytes → length (rest ends store frames (taken_to w)) < length (rest ends store frames (place_of u))
+    fewer bytes e = omega (arith, ap length (came_is (Some bytes) e).0)
 
-    module _ (o : One) (out' : List ℕ) (lists : says_one o out' ≡ list_one (gap_at store) u.ride u.number w.bytes out at) (came : w.came ≡ Came.Record) where
+    module _ (o : One) (out' bytes : List ℕ) (lists : says_one o out' ≡ list_one (gap_at store) u.ride u.number bytes out at) (came : w.came ≡ Some bytes) where
       -- A record that is not taken: the room is used.
       pub room_used : o.taken ≡ false → listing at false (place_of u) u.ride u.number out' ≡ from_either u at out
       room_used not_so =
-          let l = left (gap_at store) u.ride u.number w.bytes out at o out' lists not_so in
+          let l = left (gap_at store) u.ride u.number bytes out at o out' lists not_so in
           let p = last ends store frames (place_of u) in
           ap (listing at false (place_of u) u.ride u.number) l.out_is
           ∙ ap (λ (q : Place). listing at false q u.ride u.number out) (sym (up_to_none ends store frames u))
-          ∙ sym (ap (λ (rs : List (List ℕ)). by rs p) (came_is Came.Record came).0
-          ∙ from_full (gap_at store) u.ride u.number at w.bytes (rest ends store frames (taken_to w)) p (up_to ends store frames (place_of u)) out l.full)
+          ∙ sym (ap (λ (rs : List (List ℕ)). by rs p) (came_is (Some bytes) came).0
+          ∙ from_full (gap_at store) u.ride u.number at bytes (rest ends store frames (taken_to w)) p (up_to ends store frames (place_of u)) out l.full)
 
       -- One that is taken: from there on.
       pub one_taken : o.taken ≡ true → at ≤ length out → length out' ≡ length out
           → (o.at ≤ length out') × (from_either (standing (taken_to w) o.ride o.number) o.at out' ≡ from_either u at out)
       one_taken so low kept =
-          let a = added (gap_at store) u.ride u.number w.bytes out at o out' lists so in
-          let s : Step = treat u.ride (gap_at store (odometer_of w.bytes)) w.bytes in
+          let a = added (gap_at store) u.ride u.number bytes out at o out' lists so in
+          let s : Step = treat u.ride (gap_at store (odometer_of bytes)) bytes in
           let t : List ℕ = step_text with_reasons u.number s in
           let fits : at + length t ≤ length out = has_room t out at low (sym (ap length a.out_is) ∙ kept) in
           let next = a.next_is in
-          let f = came_is Came.Record came in
+          let f = came_is (Some bytes) came in
           let here : from_either (standing (taken_to w) o.ride o.number) o.at out' ≡ from_either (standing (taken_to w) s.ride (suc u.number)) (at + length t) (placed t out at) =
           ap (λ (x : Ride). from_either (standing (taken_to w) x o.number) o.at out') a.ride_is
           ∙ ap (λ (x : ℕ). from_either (standing (taken_to w) s.ride x) o.at out') a.number_is
@@ -156,7 +156,7 @@ module _ (ends : Bool) (store : Store) (frames : List ℕ) where
             omega arith,
             here
                 ∙ sym (ap (λ (rs : List (List ℕ)). by rs (last ends store frames (place_of u))) f.0
-                ∙ ap (by (w.bytes ∷ rest ends store frames (taken_to w))) f.1
-                ∙ from_next (gap_at store) u.ride u.number at w.bytes (rest ends store frames (taken_to w)) (last ends store frames (taken_to w))
+                ∙ ap (by (bytes ∷ rest ends store frames (taken_to w))) f.1
+                ∙ from_next (gap_at store) u.ride u.number at bytes (rest ends store frames (taken_to w)) (last ends store frames (taken_to w))
                 (up_to ends store frames (place_of u)) out (up_to ends store frames (taken_to w)) f.2 a.room fits),
           )

@@ -1,13 +1,14 @@
 -- Each contract fixes its function's whole answer and the lent buffer then: any two answers that it
 -- allows are equal, and so are the buffers.
 -- Assumes nothing.
+use Rattle.std.specs.Prelude.{Result, Ok, Err}
 use Prim.Native.Nat.{ℕ}
 use mathlib.Core.Path.{◌≡◌, refl, sym, ap, ◌∙◌}
 use mathlib.Core.List.{List}
 use Rattle.words.specs.Answer.{Outcome, gives, refuses, pick}
 use Rattle.words.proofs.Told.{Fixed, FixedWith}
 use Rattle.settings.specs.declared.Bad.{Bad}
-use Rattle.settings.proofs.Determined.{bad_of}
+use Rattle.settings.proofs.Determined.{bad_of, bad_back}
 use Rattle.lead_text.specs.declared.HowFar.{HowFar}
 use Rattle.lead_text.specs.declared.Written.{Written}
 use Rattle.lead_text.specs.List.{Wrote, Telling}
@@ -20,24 +21,20 @@ use Rattle.lead_text.proofs.list_end.Kinds as end_kinds
 use Rattle.lead_text.proofs.list_end.Reads as end_reads
 
 -- From what an answer says, the answer.
-abbrev pub how_of : Outcome Wrote → HowFar
-how_of (gives w) = pick w.all (HowFar.Over w.bytes) (HowFar.Full w.bytes)
-how_of (refuses n) = HowFar.Settings (bad_of n)
+abbrev pub how_of : Outcome Wrote → Result HowFar Bad
+how_of (gives w) = Ok (pick w.all (HowFar.Over w.bytes) (HowFar.Full w.bytes))
+how_of (refuses n) = Err (bad_of n)
 
-pub how_back : (h : HowFar) → how_of (says_how_far h) ≡ h
-how_back (HowFar.Over bytes) = refl
-how_back (HowFar.Full bytes) = refl
-how_back (HowFar.Settings Bad.Pair) = refl
-how_back (HowFar.Settings Bad.Gap) = refl
-how_back (HowFar.Settings Bad.TooHigh) = refl
-how_back (HowFar.Settings Bad.NotAbove) = refl
-how_back (HowFar.Settings Bad.Full) = refl
+pub how_back : (h : Result HowFar Bad) → how_of (says_how_far h) ≡ h
+how_back (Ok (HowFar.Over bytes)) = refl
+how_back (Ok (HowFar.Full bytes)) = refl
+how_back (Err bad) = ap Err (bad_back bad)
 
 abbrev written_of : Telling → Written
 written_of t = record { underway = t.underway; how = how_of t.answer }
 
 written_back : (r : Written) (out : List ℕ) → written_of (says_written r out) ≡ r
-written_back r out = ap (λ (h : HowFar). record { underway = r.underway; how = h }) (how_back r.how)
+written_back r out = ap (λ (h : Result HowFar Bad). record { underway = r.underway; how = h }) (how_back r.how)
 
 -- Answers and buffers that say the same are the same.
 same_written : (r r' : Written) (out out' : List ℕ) → says_written r out ≡ says_written r' out' → (r ≡ r') × (out ≡ out')

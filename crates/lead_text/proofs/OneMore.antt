@@ -25,7 +25,9 @@ use Rattle.ride.specs.Record.{odometer_of}
 use Rattle.ride.specs.Step.{Step, treat}
 use Rattle.ride.specs.Over.{first_records, records}
 use Rattle.ride_text.specs.Style.{with_reasons}
-use Rattle.ride_text.specs.declared.Done.{Done}
+use Rattle.ride_text.specs.declared.Took.{Took}
+use Rattle.ride.specs.declared.TraceRefused.{TraceRefused}
+use Rattle.std.specs.Prelude.{Result, Ok}
 use Rattle.ride_text.specs.declared.Listed.{Listed as Answer}
 use Rattle.ride_text.specs.List.{Taken, Listing}
 use Rattle.ride_text.specs.Says.{says_done, says_listed}
@@ -92,9 +94,9 @@ abbrev refused_in : Outcome Taken → ℕ
 refused_in (gives t) = 0
 refused_in (refuses n) = 1
 
-counted : (f : Outcome Taken → ℕ) (l : Answer) (part : List ℕ) (k count : ℕ) (x : Listing) → says_listed l part ≡ x → l.done ≡ Done.Took k count
+counted : (f : Outcome Taken → ℕ) (l : Answer) (part : List ℕ) (k count : ℕ) (x : Listing) → says_listed l part ≡ x → l.done ≡ Ok (record { records = k; bytes = count })
     → f (gives (record { records = k; bytes = count })) ≡ f x.answer
-counted f l part k count x says done = sym (ap (λ (d : Done). f (says_done d)) done) ∙ ap (λ (y : Listing). f y.answer) says
+counted f l part k count x says done = sym (ap (λ (d : Result Took TraceRefused). f (says_done d)) done) ∙ ap (λ (y : Listing). f y.answer) says
 
 module _ (gaps : ℕ → ℕ) (ride : Ride) (number : ℕ) (r out : List ℕ) (at : ℕ) where
   -- The listing of the one record in the rest of the buffer, by whether it is taken.
@@ -109,7 +111,7 @@ module _ (gaps : ℕ → ℕ) (ride : Ride) (number : ℕ) (r out : List ℕ) (a
       (record { is_taken = true; ride = s.ride; number = suc number; next = at + length text; out = placed text out at })
       (record { is_taken = false; ride = ride; number = number; next = at; out = out })
 
-  took_by : (b : Bool) (l : Answer) (part : List ℕ) (k count : ℕ) → says_listed l part ≡ listing_by b → l.done ≡ Done.Took k count
+  took_by : (b : Bool) (l : Answer) (part : List ℕ) (k count : ℕ) → says_listed l part ≡ listing_by b → l.done ≡ Ok (record { records = k; bytes = count })
       → says_one (answered l at k count) (put_mid at (length out - at) out part) ≡ one_by b
   unfolding list_of tell_over
   took_by true l part k count says done =
@@ -133,7 +135,7 @@ module _ (gaps : ℕ → ℕ) (ride : Ride) (number : ℕ) (r out : List ℕ) (a
       ap (put_mid at (length out - at) out) (ap (λ (x : Listing). x.out) says) ∙ behind [] out at ∙ placed_none out at in
       cc
 
-  pub took : (l : Answer) (part : List ℕ) (k count : ℕ) → says_listed l part ≡ list_taken with_reasons gaps ride number (r ∷ []) (drop at out) → l.done ≡ Done.Took k count
+  pub took : (l : Answer) (part : List ℕ) (k count : ℕ) → says_listed l part ≡ list_taken with_reasons gaps ride number (r ∷ []) (drop at out) → l.done ≡ Ok (record { records = k; bytes = count })
       → says_one (answered l at k count) (put_mid at (length out - at) out part) ≡ list_one gaps ride number r out at
   unfolding list_one taken
   took l part k count says done =
@@ -141,7 +143,7 @@ module _ (gaps : ℕ → ℕ) (ride : Ride) (number : ℕ) (r out : List ℕ) (a
       took_by (is_taken with_reasons number (length out - at)) l part k count (says ∙ ap (λ (n : ℕ). listing_by (is_taken with_reasons number n)) room) done
 
   -- What is written lies in the buffer.
-  pub written_in : (l : Answer) (part : List ℕ) (k count : ℕ) → says_listed l part ≡ list_taken with_reasons gaps ride number (r ∷ []) (drop at out) → l.done ≡ Done.Took k count
+  pub written_in : (l : Answer) (part : List ℕ) (k count : ℕ) → says_listed l part ≡ list_taken with_reasons gaps ride number (r ∷ []) (drop at out) → l.done ≡ Ok (record { records = k; bytes = count })
       → at ≤ length out → length part ≡ length (mid_of at (length out - at) out) → at + count ≤ length out
   unfolding list_of
   written_in l part k count says done low same =

@@ -18,7 +18,7 @@ mod record_lines;
 
 use recording::Tape;
 use ride::Ride;
-use settings::{Asked, Bad, Store};
+use settings::{Bad, Store};
 
 // A ride under way: the tape at the lead, the ride over the records that came, the number of the
 // next one, and the frame of the lent piece and the bit of its line to go on from.
@@ -31,20 +31,19 @@ pub struct Underway {
     pub bit: usize,
 }
 
-// How far a call came, and how many bytes it wrote: all that was lent is used; the room is used,
-// and the same is lent again; or the settings are refused.
+// How far a call came, and how many bytes it wrote: all that was lent is used; or the room is used,
+// and the same is lent again.
 #[derive(Clone, Copy)]
 pub enum HowFar {
     Over(usize),
     Full(usize),
-    Settings(Bad),
 }
 
-// What a call answers: the ride then, and how far it came.
+// What a call answers: the ride then, and how far it came; or the refusal of the settings.
 #[derive(Clone, Copy)]
 pub struct Written {
     pub underway: Underway,
-    pub how: HowFar,
+    pub how: Result<HowFar, Bad>,
 }
 
 // A ride at the beginning of a lead.
@@ -69,11 +68,11 @@ pub fn list_frames(underway: Underway, store: Store, frames: &[u8], out: &mut [u
     ensures { says_written result out.new ≡ list_frames underway store frames.now out.old }
 {
     match settings::at(store, 0) {
-        Asked::Refused(bad) => Written {
+        Err(bad) => Written {
             underway,
-            how: HowFar::Settings(bad),
+            how: Err(bad),
         },
-        Asked::InForce(_) => pieces::over(false, underway, store, frames, out),
+        Ok(_) => pieces::over(false, underway, store, frames, out),
     }
 }
 
@@ -83,10 +82,10 @@ pub fn list_end(underway: Underway, store: Store, out: &mut [u8]) -> Written
     ensures { says_written result out.new ≡ list_end underway store out.old }
 {
     match settings::at(store, 0) {
-        Asked::Refused(bad) => Written {
+        Err(bad) => Written {
             underway,
-            how: HowFar::Settings(bad),
+            how: Err(bad),
         },
-        Asked::InForce(_) => pieces::over(true, underway, store, b"", out),
+        Ok(_) => pieces::over(true, underway, store, b"", out),
     }
 }

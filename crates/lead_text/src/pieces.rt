@@ -10,7 +10,7 @@ ghost use Rattle.lead_text.specs.Inside.{taken_to, of_either};
 use crate::coming::next_record;
 use crate::record_lines::list_one;
 use crate::{HowFar, Underway, Written};
-use recording::{Came, Taken};
+use recording::Taken;
 use ride::Ride;
 use settings::Store;
 
@@ -38,19 +38,17 @@ pub fn over(ends: bool, underway: Underway, store: Store, frames: &[u8], out: &m
     loop {
         let ride = here.ride;
         let taken = next_record(ends, here, store, frames);
-        let bytes = taken.bytes;
-        let came = taken.came;
-        let Came::Record = came else {
+        let Some(bytes) = taken.came else {
             return Written {
                 underway: standing(taken, ride, here.number),
-                how: HowFar::Over(at),
+                how: Ok(HowFar::Over(at)),
             };
         };
         let one = list_one(ride, store, here.number, bytes, out, at);
         if !one.taken {
             return Written {
                 underway: here,
-                how: HowFar::Full(at),
+                how: Ok(HowFar::Full(at)),
             };
         }
         let then = one.ride;

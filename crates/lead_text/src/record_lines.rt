@@ -7,7 +7,7 @@ ghost use Rattle.settings.specs.At.{gap_at};
 ghost use Rattle.lead_text.specs.Inside.{says_one, list_one};
 
 use ride::Ride;
-use ride_text::{Done, REASONS};
+use ride_text::REASONS;
 use settings::Store;
 
 // What listing a record answers: whether it was taken; the ride, the next record's number and the
@@ -37,22 +37,13 @@ pub fn list_one(
     let done = listed.done;
     let then = listed.ride;
     match done {
-        Done::Took {
-            records,
-            bytes: count,
-        } => One {
-            taken: records > 0,
+        Ok(took) => One {
+            taken: took.records > 0,
             ride: then,
             number: listed.number,
-            at: at + count,
+            at: at + took.bytes,
         },
-        Done::Settings(_) => One {
-            taken: false,
-            ride,
-            number,
-            at,
-        },
-        Done::Length => One {
+        Err(_) => One {
             taken: false,
             ride,
             number,

@@ -1,6 +1,7 @@
 -- The lines of `live`: each call's text is that of the records that it took, and those records are
 -- the lead's, one after the other.
 -- Assumes nothing.
+use Rattle.std.specs.Prelude.{Ok}
 use Prim.Native.Nat.{ℕ, ◌+◌, ◌≤◌, ◌<◌}
 use native.Mathlib.Omega.{arith}
 use mathlib.Core.Path.{◌≡◌, refl, sym, ap, ap₂, ◌∙◌, subst}
@@ -158,7 +159,7 @@ module _ (store : Store) (good : Good store) where
       ap₂ ◌++◌ all.text_is (end_put e ∙ ap (end_text with_reasons) all.ride_is)
 
   goes_on : (u : Underway) (frames before after' : List ℕ) (r : Written) (n : ℕ) → 320 ≤ length before → u.number < largest64
-      → ListFrames u store frames before r after' → r.how ≡ HowFar.Full n → u.number < r.underway.number
+      → ListFrames u store frames before r after' → r.how ≡ Ok (HowFar.Full n) → u.number < r.underway.number
   goes_on u frames before after' r n wide low c e =
       let p : Place = place_of u in
       let x : Taped = to_come store frames p in

@@ -1,6 +1,7 @@
 -- The hypotheses of the law are met: for any good store and any pieces there are calls in full,
 -- each with room for all that comes.
 -- Assumes nothing.
+use Rattle.std.specs.Prelude.{Ok}
 use Prim.Native.Nat.{ℕ, suc, ◌+◌, ◌-◌, ◌≤◌, ◌<◌}
 use native.Mathlib.Omega.{arith}
 use mathlib.Core.Path.{◌≡◌, refl, sym, ap, ap₂, ◌∙◌}
@@ -69,7 +70,7 @@ module _ (gaps : ℕ → ℕ) (u : Underway) (rs : List (List ℕ)) (last : Plac
   written = placed told.text before 0
 
   abbrev answer : Written
-  answer = record { underway = standing last told.ride (u.number + length rs); how = HowFar.Over (length told.text) }
+  answer = record { underway = standing last told.ride (u.number + length rs); how = Ok (HowFar.Over (length told.text)) }
 
   -- The listing of the first records a, where b are left.
   abbrev listing_of : ℕ → List (List ℕ) → List (List ℕ) → Telling

@@ -1,5 +1,6 @@
 -- What one listing of some records says.
 -- Assumes nothing.
+use Rattle.std.specs.Prelude.{Result, Ok}
 use Prim.Native.Nat.{ℕ, ◌+◌, ◌≤◌, ◌<◌}
 use native.Mathlib.Omega.{arith}
 use mathlib.Core.Path.{◌≡◌, refl, sym, ap, ap₂, ◌∙◌}
@@ -18,6 +19,7 @@ use Rattle.ride_text.specs.Told.{Told, tell_over}
 use Rattle.ride_text.specs.List.{taken}
 use Rattle.ride_text.proofs.Taken.{few_taken}
 use Rattle.lead_text.specs.declared.HowFar.{HowFar}
+use Rattle.settings.specs.declared.Bad.{Bad}
 use Rattle.lead_text.specs.declared.Underway.{Underway}
 use Rattle.lead_text.specs.declared.Written.{Written}
 use Rattle.lead_text.specs.Places.{Place}
@@ -90,14 +92,14 @@ module _ (gaps : ℕ → ℕ) (u : Underway) (rs : List (List ℕ)) (last : Plac
     pub text : take n after ≡ (tell_over with_reasons gaps u.ride u.number rs).text
     pub then : r.underway ≡ standing last (tell_over with_reasons gaps u.ride u.number rs).ride (u.number + length rs)
 
-  pub over_all : r.how ≡ HowFar.Over n → Over
+  pub over_all : r.how ≡ Ok (HowFar.Over n) → Over
   over_all e =
-      let none = none_left (drop count rs) (left_by true (ap (λ (h : HowFar). all_in (says_how_far h)) e)) in
+      let none = none_left (drop count rs) (left_by true (ap (λ (h : Result HowFar Bad). all_in (says_how_far h)) e)) in
       let whole : take count rs ≡ rs = all_of none in
       let number : count ≡ length rs = sym counted ∙ ap length whole in
       record {
-        text = text_by (ap (λ (h : HowFar). bytes_in (says_how_far h)) e) ∙ ap (λ (x : List (List ℕ)). (tell_over with_reasons gaps u.ride u.number x).text) whole;
-        then = stands_by true (ap (λ (h : HowFar). all_in (says_how_far h)) e)
+        text = text_by (ap (λ (h : Result HowFar Bad). bytes_in (says_how_far h)) e) ∙ ap (λ (x : List (List ℕ)). (tell_over with_reasons gaps u.ride u.number x).text) whole;
+        then = stands_by true (ap (λ (h : Result HowFar Bad). all_in (says_how_far h)) e)
             ∙ ap₂ (λ (x : List (List ℕ)) (k : ℕ). standing last (tell_over with_reasons gaps u.ride u.number x).ride (u.number + k)) whole number;
       }
     where
@@ -110,10 +112,10 @@ module _ (gaps : ℕ → ℕ) (u : Underway) (rs : List (List ℕ)) (last : Plac
     pub then : r.underway ≡ standing (up_to count) told.ride (u.number + count)
     pub left : none_left_meant (drop count rs) ≡ false
 
-  pub full_some : r.how ≡ HowFar.Full n → Full
+  pub full_some : r.how ≡ Ok (HowFar.Full n) → Full
   full_some e =
       record {
-        text = text_by (ap (λ (h : HowFar). bytes_in (says_how_far h)) e);
-        then = stands_by false (ap (λ (h : HowFar). all_in (says_how_far h)) e);
-        left = left_by false (ap (λ (h : HowFar). all_in (says_how_far h)) e);
+        text = text_by (ap (λ (h : Result HowFar Bad). bytes_in (says_how_far h)) e);
+        then = stands_by false (ap (λ (h : Result HowFar Bad). all_in (says_how_far h)) e);
+        left = left_by false (ap (λ (h : Result HowFar Bad). all_in (says_how_far h)) e);
       }

@@ -2,7 +2,7 @@
 -- lead comes in, and whatever room there is for the lines, the texts written one after the other
 -- are the text with reasons of the ride over the records of the lead, and of its end.
 -- Assumes nothing.
-use Rattle.std.specs.Prelude.{ℕ, ◌%◌, ◌≤◌, ◌<◌, ◌≡◌, List, [], ◌∷◌, ◌++◌, length, take}
+use Rattle.std.specs.Prelude.{ℕ, ◌%◌, ◌≤◌, ◌<◌, ◌≡◌, List, [], ◌∷◌, ◌++◌, length, take, Ok}
 use Rattle.words.specs.Answer.{gives}
 use Rattle.words.specs.Limits.{largest64}
 use Rattle.settings.specs.declared.Store.{Store}
@@ -32,18 +32,18 @@ Good store = judged store ≡ gives kept
 pub data Heard (store : Store) : Underway → List (List ℕ) → List ℕ → Underway → Type 0 where
   none : {u : Underway} → Heard store u [] [] u
   again : {u last : Underway} {piece text : List ℕ} {pieces : List (List ℕ)} (before after : List ℕ) (r : Written) (n : ℕ)
-      → ListFrames u store piece before r after → r.how ≡ HowFar.Full n → Heard store r.underway (piece ∷ pieces) text last
+      → ListFrames u store piece before r after → r.how ≡ Ok (HowFar.Full n) → Heard store r.underway (piece ∷ pieces) text last
       → Heard store u (piece ∷ pieces) (take n after ++ text) last
   next : {u last : Underway} {piece text : List ℕ} {pieces : List (List ℕ)} (before after : List ℕ) (r : Written) (n : ℕ)
-      → ListFrames u store piece before r after → r.how ≡ HowFar.Over n → Heard store r.underway pieces text last
+      → ListFrames u store piece before r after → r.how ≡ Ok (HowFar.Over n) → Heard store r.underway pieces text last
       → Heard store u (piece ∷ pieces) (take n after ++ text) last
 
 -- `list_end` is called until all is written.
 pub data Closed (store : Store) : Underway → List ℕ → Underway → Type 0 where
   again : {u last : Underway} {text : List ℕ} (before after : List ℕ) (r : Written) (n : ℕ)
-      → ListEnd u store before r after → r.how ≡ HowFar.Full n → Closed store r.underway text last → Closed store u (take n after ++ text) last
+      → ListEnd u store before r after → r.how ≡ Ok (HowFar.Full n) → Closed store r.underway text last → Closed store u (take n after ++ text) last
   over : {u : Underway} (before after : List ℕ) (r : Written) (n : ℕ)
-      → ListEnd u store before r after → r.how ≡ HowFar.Over n → Closed store u (take n after) r.underway
+      → ListEnd u store before r after → r.how ≡ Ok (HowFar.Over n) → Closed store u (take n after) r.underway
 
 -- `put_end` writes the end of the ride into a buffer with room for it.
 pub data Ended : Ride → List ℕ → Type 0 where
@@ -85,4 +85,4 @@ pub record Live : Type 0 where
   -- So long as there is room for the lines of one record, a call that uses up its room has taken
   -- one, so that the calls come to an end.
   pub goes_on : (store : Store) (u : Underway) (frames before after : List ℕ) (r : Written) (n : ℕ) → Good store → 320 ≤ length before → u.number < largest64
-      → ListFrames u store frames before r after → r.how ≡ HowFar.Full n → u.number < r.underway.number
+      → ListFrames u store frames before r after → r.how ≡ Ok (HowFar.Full n) → u.number < r.underway.number

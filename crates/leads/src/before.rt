@@ -1,7 +1,5 @@
 // The settings before the leads: a sync pair, or a file.
-use console::{AskedFor, OptionsWent, PairAsked, System};
-use settings::Verdict;
-use settings_text::no_store;
+use console::{AskedFor, CallWrong, Said, StoreOf, System};
 
 // The gap beside a plain pair, in dm.
 const GAP: u32 = 40;
@@ -19,57 +17,38 @@ fn refuse(rt: &impl System, program: &[u8], aside: bool) {
 }
 
 // The pair S and S* with the gap 40, or what is said of it.
-fn pair(rt: &impl System, program: &[u8], aside: bool, s: u8, t: u8) -> AskedFor {
+fn pair(rt: &impl System, program: &[u8], aside: bool, s: u8, t: u8) -> Result<AskedFor, Said> {
     let begun = settings::begin(GAP, s, t);
     let store = begun.store;
     let verdict = begun.verdict;
     match verdict {
-        Verdict::Kept => AskedFor {
+        Ok(()) => Ok(AskedFor {
             store,
             first: AFTER,
-            how: OptionsWent::Plain,
-        },
-        Verdict::Refused(_) => {
+            of: StoreOf::Plain,
+        }),
+        Err(_) => {
             refuse(rt, program, aside);
-            AskedFor {
-                store,
-                first: AFTER,
-                how: OptionsWent::Said,
-            }
+            Err(Said)
         }
     }
 }
 
-// Nothing is ridden.
-fn none(how: OptionsWent) -> AskedFor {
-    AskedFor {
-        store: no_store(),
-        first: AFTER,
-        how,
-    }
-}
-
 // The words of a pair, from the arguments.
-fn pair_named(rt: &impl System, program: &[u8], aside: bool) -> AskedFor {
+fn pair_named(rt: &impl System, program: &[u8], aside: bool) -> Result<AskedFor, CallWrong> {
     if console::argument_count(rt) < AFTER {
-        return none(OptionsWent::Usage);
+        return Err(CallWrong::Usage);
     }
-    let PairAsked::Is(s, t) = console::sync_pair(rt, program, 1) else {
-        return none(OptionsWent::Said);
-    };
-    pair(rt, program, aside, s, t)
+    let (s, t) = console::sync_pair(rt, program, 1)?;
+    Ok(pair(rt, program, aside, s, t)?)
 }
 
 // What the arguments ask for before the leads: `-s SETTINGS`, or `S S*`.
-pub fn options(rt: &impl System, program: &[u8], aside: bool) -> AskedFor {
-    let asked = console::options(rt, program, aside);
-    let store = asked.store;
-    let first = asked.first;
-    let how = asked.how;
-    match how {
-        OptionsWent::Plain => pair_named(rt, program, aside),
-        OptionsWent::Settings => AskedFor { store, first, how },
-        OptionsWent::Usage => AskedFor { store, first, how },
-        OptionsWent::Said => AskedFor { store, first, how },
+pub fn options(rt: &impl System, program: &[u8], aside: bool) -> Result<AskedFor, CallWrong> {
+    let asked = console::options(rt, program, aside)?;
+    let of = asked.of;
+    match of {
+        StoreOf::Plain => pair_named(rt, program, aside),
+        StoreOf::Settings => Ok(asked),
     }
 }

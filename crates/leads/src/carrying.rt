@@ -11,10 +11,6 @@ pub fn carry(block: &mut [u8], from: usize, count: usize) -> usize
     if count > block.len() - from {
         return 0;
     }
-    let mut i: usize = 0;
-    while i < count {
-        block[i] = block[from + i];
-        i += 1;
-    }
+    block.copy_within(from..from + count, 0);
     count
 }

@@ -11,17 +11,21 @@
 //    may come (`More`), all were read (`End`), or what failed. One call reads once, and waits for
 //    no more than what has come. The bytes of a frame that is not whole yet stay in the block: the
 //    next call is lent the same block, unchanged. A lead is opened when its turn comes.
-// 3. `kept(leads)`: how many bytes stand after the last whole frame. `say(program, how)`: one line
-//    of standard error for what failed, which is told.
+//    `over_leads(first, block, takes)` lends each piece to a closure, up to one that it does not
+//    take.
+// 3. `kept(leads)`: how many bytes stand after the last whole frame. `say(program, failed)`: one
+//    line of standard error for what failed, which is told.
 // Promises: all is safe and ends; what is read lies within what was lent, and a piece is whole
 // frames. What is read or written stands outside contracts: docs/EXCEPTIONS.md.
 #![tactic(auto)]
 
 mod before;
 mod carrying;
+mod over;
 mod pieces;
 mod saying;
 
 pub use before::options;
-pub use pieces::{Leads, Piece, ReadingGoes, begin, kept, next_piece};
+pub use over::over_leads;
+pub use pieces::{Leads, Piece, begin, kept, next_piece};
 pub use saying::say;

@@ -2,7 +2,7 @@
 ghost use Rattle.std.specs.Prelude.{◌≡◌, ◌%◌, ◌≤◌, length};
 
 use crate::carrying::carry;
-use console::{Far, Source, System, go_on_somehow, not_begun, read_some, wipe};
+use console::{Far, Goes, PassFailed, Source, System, go_on_somehow, not_begun, read_some, wipe};
 
 // Where the reading of the leads stands: the argument of the first, how many were begun, the open
 // file if there is one, the bytes of a frame that is not whole yet: where they stand in the block,
@@ -17,24 +17,13 @@ pub struct Leads {
     far: Far,
 }
 
-// How the reading goes on: more may come; all leads were read; the lead of this argument cannot be
-// opened, or a read of it failed; or the lent block has no room for a frame.
-#[derive(Clone, Copy)]
-pub enum ReadingGoes {
-    More,
-    End,
-    CannotOpen(usize),
-    CannotRead(usize),
-    NoRoom,
-}
-
 // What a call leaves: the reading, how many bytes of whole frames stand at the start of the block,
 // and how it goes on.
 #[derive(Drop)]
 pub struct Piece {
     pub leads: Leads,
     pub length: usize,
-    pub how: ReadingGoes,
+    pub how: Result<Goes, PassFailed>,
 }
 
 // The leads from this argument on, none begun.
@@ -56,7 +45,7 @@ pub fn kept(leads: &Leads) -> usize {
 
 // No frame, with this file open, so many leads begun, and so many bytes of a frame at the front of
 // the block.
-fn none(leads: Leads, begun: usize, file: Option<Source>, how: ReadingGoes) -> Piece
+fn none(leads: Leads, begun: usize, file: Option<Source>, how: Result<Goes, PassFailed>) -> Piece
     ensures { result.length ≡ 0 }
 {
     let far = leads.far;
@@ -100,19 +89,19 @@ fn next_lead(rt: &impl System, leads: Leads) -> Piece
     if is_last & (begun > 0) {
         let far = leads.far;
         wipe(rt, far);
-        return none(leads, begun, None, ReadingGoes::End);
+        return none(leads, begun, None, Ok(Goes::End));
     }
     let file = open(rt, number);
     let how = if file.is_none() {
-        ReadingGoes::CannotOpen(number)
+        Err(PassFailed::CannotOpen(number))
     } else {
-        ReadingGoes::More
+        Ok(Goes::More)
     };
     none(leads, begun.wrapping_add(1), file, how)
 }
 
 // The open lead is closed: it has ended, or a read of it failed.
-fn closed(leads: Leads, how: ReadingGoes) -> Piece
+fn closed(leads: Leads, how: Result<Goes, PassFailed>) -> Piece
     ensures { result.length ≡ 0 }
 {
     let begun = leads.begun;
@@ -137,7 +126,7 @@ fn frames(rt: &impl System, leads: Leads, file: Source, end: usize) -> Piece
             far,
         },
         length,
-        how: ReadingGoes::More,
+        how: Ok(Goes::More),
     }
 }
 
@@ -149,16 +138,16 @@ fn read_on(rt: &impl System, leads: Leads, mut file: Source, block: &mut [u8]) -
     let kept = leads.count;
     if kept == block.len() {
         let begun = leads.begun;
-        return none(leads, begun, Some(file), ReadingGoes::NoRoom);
+        return none(leads, begun, Some(file), Err(PassFailed::NoRoom));
     }
     let got = read_some(rt, &mut file, &mut block[kept..]);
     if got.failed {
         let number = leads.first.wrapping_add(leads.begun).wrapping_sub(1);
-        return closed(leads, ReadingGoes::CannotRead(number));
+        return closed(leads, Err(PassFailed::CannotRead(number)));
     }
     let more = got.count;
     if more == 0 {
-        return closed(leads, ReadingGoes::More);
+        return closed(leads, Ok(Goes::More));
     }
     frames(rt, leads, file, kept + more)
 }

@@ -12,7 +12,7 @@ mod out;
 mod pieces;
 
 use console::{Source, System};
-use pieces::Went;
+use pieces::LineFailed;
 
 // Goes over what the open file gives from where it stands, for strips or for lines; what goes wrong
 // is said, of the argument that names the file. Whether all went well.
@@ -25,14 +25,13 @@ pub fn go_over(
     s: u8,
     t: u8,
 ) -> bool {
-    let went = pieces::all(rt, from, draws, s, t);
-    match went {
-        Went::Well => true,
-        Went::Unread => {
+    match pieces::all(rt, from, draws, s, t) {
+        Ok(()) => true,
+        Err(LineFailed::Unread) => {
             console::cannot_read(rt, program, file);
             false
         }
-        Went::Unwritten => {
+        Err(LineFailed::Unwritten) => {
             console::cannot_write(rt, program);
             false
         }

@@ -90,6 +90,7 @@ fn over(
     let mut have = keep(piece, 0, kept, from.have);
     let mut text = no_text();
     let mut i: usize = 0;
+    // Stays as it is: the new form is no plainer, a turn goes on behind the bit that was heard last.
     while i < bits {
         match antenna::hear_piece(ear, piece, i, bits - i, asked.s, asked.t) {
             Until::Opened { ear: then, at } => {
@@ -137,22 +138,22 @@ fn front(
 }
 
 // What is said at the end of the line, where lines are asked for; whether it was written.
-fn end(rt: &impl System, from: SoFar, draws: bool) -> Went {
+fn end(rt: &impl System, from: SoFar, draws: bool) -> Result<(), LineFailed> {
     let far = from.far;
     wipe(rt, far);
     if draws {
-        return Went::Well;
+        return Ok(());
     }
     let ear = from.ear;
     let stand = ear.stand;
     match stand {
         antenna::Stand::Inside(_) => {
             if out::refuse(rt, 9) {
-                return Went::Well;
+                return Ok(());
             }
-            Went::Unwritten
+            Err(LineFailed::Unwritten)
         }
-        antenna::Stand::Outside => Went::Well,
+        antenna::Stand::Outside => Ok(()),
     }
 }
 
@@ -168,26 +169,30 @@ fn fresh() -> SoFar {
     }
 }
 
-// What the open file gives went well, or a read or a write failed.
-#[derive(Clone, Copy)]
-pub enum Went {
-    Well,
+// Why what the open file gives was not gone over to its end: a read or a write failed.
+#[derive(Clone, Copy, PartialEq, Eq)]
+pub enum LineFailed {
     Unread,
     Unwritten,
 }
 
 // All that the open file gives, as it comes. A proved loop has to end, and nothing says that a line
-// does: so it counts its turns down from a number that no run uses up.
-pub fn all(rt: &impl System, from: &mut Source, draws: bool, s: u8, t: u8) -> Went {
+// does: so it takes no more turns than no run uses up.
+pub fn all(
+    rt: &impl System,
+    from: &mut Source,
+    draws: bool,
+    s: u8,
+    t: u8,
+) -> Result<(), LineFailed> {
     let mut block = [0u8; 65536];
     let mut buf = room();
     let mut kept = [0u8; 256];
     let mut heard = fresh();
-    let mut turns = u64::MAX;
-    while turns > 0 {
+    for _ in 0..u64::MAX {
         let got = read_some(rt, from, &mut block);
         if got.failed {
-            return Went::Unread;
+            return Err(LineFailed::Unread);
         }
         let count = got.count;
         if count == 0 {
@@ -196,9 +201,8 @@ pub fn all(rt: &impl System, from: &mut Source, draws: bool, s: u8, t: u8) -> We
         let asked = Wanted { draws, s, t };
         heard = front(rt, heard, asked, &block, count, &mut kept, &mut buf);
         if !heard.is_good {
-            return Went::Unwritten;
+            return Err(LineFailed::Unwritten);
         }
-        turns -= 1;
     }
-    Went::Well
+    Ok(())
 }

@@ -1,10 +1,9 @@
 -- A line read character by character, block after block. What it comes to is said in lines_laws.
 -- Assumes nothing.
-use Rattle.std.specs.Prelude.{ℕ, ◌+◌, ◌-◌, ◌*◌, Bool, true, false, ◌&&◌, ◌||◌, List, [], ◌∷◌, eqb, leb, ltb, drop}
+use Rattle.std.specs.Prelude.{ℕ, ◌+◌, ◌-◌, ◌*◌, Bool, true, false, ◌&&◌, ◌||◌, List, [], ◌∷◌, eqb, leb, ltb, drop, Option, None, Result, Ok, Err}
 use Rattle.words.specs.Answer.{pick}
 use Rattle.figures.specs.Figures.{between, hex}
-use Rattle.figures.specs.declared.Byte.{Byte}
-use Rattle.lines.specs.declared.Number.{Number}
+use Rattle.figures.specs.declared.NotFigure.{NotFigure}
 use Rattle.lines.specs.declared.Name.{Name}
 use Rattle.lines.specs.declared.Word.{Word}
 use Rattle.lines.specs.declared.TextLine.{TextLine}
@@ -15,17 +14,16 @@ use Rattle.lines.specs.Text.{blank, newline, hash}
 use Rattle.lines.specs.Words.{largest, no_words, kept}
 
 -- A number with one digit more.
-unfoldable pub digit_on : ℕ → ℕ → Number
-digit_on n digit = pick (leb (n * 10 + digit) largest) (Number.Is (n * 10 + digit)) Number.Above
+unfoldable pub digit_on : ℕ → ℕ → Result ℕ NotFigure
+digit_on n digit = pick (leb (n * 10 + digit) largest) (Ok (n * 10 + digit)) (Err NotFigure.Above)
 
-abbrev pub numbered : Number → ℕ → Number
-numbered (Number.Is n) c = digit_on n (c - 48)
-numbered Number.Above c = Number.Above
-numbered Number.Odd c = Number.Odd
+abbrev pub numbered : Result ℕ NotFigure → ℕ → Result ℕ NotFigure
+numbered (Ok n) c = digit_on n (c - 48)
+numbered (Err e) c = Err e
 
 -- A number with one character more.
-unfoldable pub number_on : Number → ℕ → Number
-number_on number c = pick (between 48 57 c) (numbered number c) Number.Odd
+unfoldable pub number_on : Result ℕ NotFigure → ℕ → Result ℕ NotFigure
+number_on number c = pick (between 48 57 c) (numbered number c) (Err NotFigure.Odd)
 
 -- What stands for letters that no name has: 32^11.
 abbrev pub no_name : ℕ
@@ -38,12 +36,12 @@ letters_on letters c = pick (between 97 122 c && ltb letters 1125899906842624) (
 
 -- No character yet.
 unfoldable pub no_letters : Letters
-no_letters = record { number = Number.Is 0; first = 0; second = 0; count = 0; letters = 0 }
+no_letters = record { number = Ok 0; first = 0; second = 0; count = 0; letters = 0 }
 
 -- A word with one character more.
 unfoldable pub letter_on : Letters → ℕ → Letters
 letter_on w c =
-    let number : Number = number_on w.number c in
+    let number : Result ℕ NotFigure = number_on w.number c in
     let letters : ℕ = letters_on w.letters c in
     pick (eqb w.count 0) (record { number = number; first = c; second = w.second; count = 1; letters = letters })
     (pick (eqb w.count 1) (record { number = number; first = w.first; second = c; count = 2; letters = letters })
@@ -68,8 +66,8 @@ named letters =
     (pick (eqb letters 19388037) Name.Route Name.Other))))))))
 
 -- The byte that two characters are, of a word with so many.
-unfoldable pub byte_of : ℕ → ℕ → ℕ → Byte
-byte_of first second count = pick (eqb count 2) (hex (first ∷ second ∷ [])) Byte.Odd
+unfoldable pub byte_of : ℕ → ℕ → ℕ → Option ℕ
+byte_of first second count = pick (eqb count 2) (hex (first ∷ second ∷ [])) None
 
 -- What a word is, after its last character.
 unfoldable pub done : Letters → Word

@@ -2,7 +2,7 @@
 -- blank lines are free; line ends LF or CRLF, a byte order mark is passed over." A text is the
 -- codes of its characters.
 -- Assumes nothing.
-use Rattle.std.specs.Prelude.{ℕ, Bool, true, false, ◌&&◌, ◌||◌, List, [], ◌∷◌, eqb, leb, length, get_or, drop}
+use Rattle.std.specs.Prelude.{ℕ, Bool, ◌&&◌, ◌||◌, List, [], ◌∷◌, eqb, leb, length, get_or, drop}
 use Rattle.words.specs.Answer.{pick}
 
 -- A blank: a space, a tab, or the CR that stands before the LF in some texts.

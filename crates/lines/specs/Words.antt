@@ -1,12 +1,10 @@
 -- What a word is: a number, two hex digits, a name; and what is kept of the words of a line.
 -- Assumes nothing.
-use Rattle.std.specs.Prelude.{ℕ, ◌+◌, Bool, true, false, ◌&&◌, List, [], ◌∷◌, eqb, ltb, set, replicate}
+use Rattle.std.specs.Prelude.{ℕ, ◌+◌, Bool, true, false, ◌&&◌, List, [], ◌∷◌, eqb, ltb, set, replicate, Result, Err, Some}
 use Rattle.words.specs.Answer.{pick}
 use Rattle.text.specs.Text.{codes}
 use Rattle.figures.specs.Figures.{decimal, hex}
-use Rattle.figures.specs.declared.Figure.{Figure}
-use Rattle.figures.specs.declared.Byte.{Byte}
-use Rattle.lines.specs.declared.Number.{Number}
+use Rattle.figures.specs.declared.NotFigure.{NotFigure}
 use Rattle.lines.specs.declared.Name.{Name}
 use Rattle.lines.specs.declared.Word.{Word}
 use Rattle.lines.specs.declared.TextLine.{TextLine}
@@ -16,14 +14,9 @@ use Rattle.lines.specs.Text.{words_of}
 abbrev pub largest : ℕ
 largest = 4294967295
 
-abbrev pub number_of : Figure → Number
-number_of (Figure.Number n) = Number.Is n
-number_of Figure.Above = Number.Above
-number_of Figure.Odd = Number.Odd
-
 -- A word as a number: decimal, "leading zeroes are free", "a figure of any length is a figure".
-unfoldable pub number : List ℕ → Number
-number word = number_of (decimal word largest)
+unfoldable pub number : List ℕ → Result ℕ NotFigure
+number word = decimal word largest
 
 -- Whether two words are the same.
 unfoldable pub same : List ℕ → List ℕ → Bool
@@ -51,7 +44,7 @@ word_of word = record { number = number word; byte = hex word; name = name word 
 
 -- A place of a line that has no word.
 abbrev pub no_word : Word
-no_word = record { number = Number.Odd; byte = Byte.Is 0; name = Name.Other }
+no_word = record { number = Err NotFigure.Odd; byte = Some 0; name = Name.Other }
 
 -- A line without a word.
 unfoldable pub no_words : TextLine

@@ -4,13 +4,13 @@ ghost use Rattle.lines.specs.Words.{no_words, kept};
 ghost use Rattle.lines.specs.Reading.{stops, closed, unfinished, whole};
 
 use crate::spelling::done;
-use crate::{Got, Letters, Name, Number, Reader, TextLine, Word};
-use figures::Byte;
+use crate::{Got, Letters, Name, Reader, TextLine, Word};
+use figures::NotFigure;
 
 // A place of a line that has no word.
 const NO_WORD: Word = Word {
-    number: Number::Odd,
-    byte: Byte::Is(0),
+    number: Err(NotFigure::Odd),
+    byte: Some(0),
     name: Name::Other,
 };
 

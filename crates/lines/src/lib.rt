@@ -15,17 +15,9 @@ ghost use Rattle.lines.specs.Reading.{fresh, next_line};
 mod keeping;
 mod spelling;
 
-use figures::Byte;
+use figures::NotFigure;
 use keeping::closed;
 use spelling::{letter_on, no_letters};
-
-// What a word is as a decimal number: none, a number, or one above 4,294,967,295.
-#[derive(Clone, Copy)]
-pub enum Number {
-    Odd,
-    Is(u32),
-    Above,
-}
 
 // What a word is as a name: another word, or one of those that a text has.
 #[derive(Clone, Copy)]
@@ -42,11 +34,11 @@ pub enum Name {
     Route,
 }
 
-// What a word is: as a number, as two hex digits, as a name.
+// What a word is: as a number up to 4,294,967,295, as two hex digits, as a name.
 #[derive(Clone, Copy)]
 pub struct Word {
-    pub number: Number,
-    pub byte: Byte,
+    pub number: Result<u32, NotFigure>,
+    pub byte: Option<u8>,
     pub name: Name,
 }
 
@@ -61,7 +53,7 @@ pub struct TextLine {
 // its letters as one number.
 #[derive(Clone, Copy)]
 pub struct Letters {
-    pub number: Number,
+    pub number: Result<u32, NotFigure>,
     pub first: u8,
     pub second: u8,
     pub count: u8,
@@ -118,12 +110,10 @@ pub fn next_line(reader: Reader, text: &[u8], from: usize) -> Got
     let mut line = reader.line;
     let mut word = reader.word;
     let mut comment = reader.comment;
-    let mut i = from;
-    while i < text.len() {
+    for i in from..text.len() {
         let c = text[i];
-        i += 1;
         if c == 10 {
-            return keeping::whole(line, word, i);
+            return keeping::whole(line, word, i + 1);
         }
         if comment {
             continue;
@@ -136,5 +126,5 @@ pub fn next_line(reader: Reader, text: &[u8], from: usize) -> Got
         }
         word = letter_on(word, c);
     }
-    keeping::unfinished(line, word, comment, i)
+    keeping::unfinished(line, word, comment, from.max(text.len()))
 }

@@ -2,15 +2,15 @@
 ghost use Rattle.std.specs.Prelude.{◌≡◌};
 ghost use Rattle.lines.specs.Reading.{digit_on, number_on, letters_on, no_letters, letter_on, named, byte_of, done};
 
-use crate::{Letters, Name, Number, Word};
-use figures::Byte;
+use crate::{Letters, Name, Word};
+use figures::NotFigure;
 
 // No character yet.
 pub fn no_letters() -> Letters
     ensures { result ≡ no_letters }
 {
     Letters {
-        number: Number::Is(0),
+        number: Ok(0),
         first: 0,
         second: 0,
         count: 0,
@@ -19,29 +19,28 @@ pub fn no_letters() -> Letters
 }
 
 // A number with one digit more.
-fn digit_on(n: u32, digit: u8) -> Number
+fn digit_on(n: u32, digit: u8) -> Result<u32, NotFigure>
     ensures { result ≡ digit_on n digit }
 {
     if n > (u32::MAX - digit as u32) / 10 {
-        return Number::Above;
+        return Err(NotFigure::Above);
     }
-    Number::Is(n * 10 + digit as u32)
+    Ok(n * 10 + digit as u32)
 }
 
 // A number with one character more.
-fn number_on(number: Number, c: u8) -> Number
+fn number_on(number: Result<u32, NotFigure>, c: u8) -> Result<u32, NotFigure>
     ensures { result ≡ number_on number c }
 {
     if c < 48 {
-        return Number::Odd;
+        return Err(NotFigure::Odd);
     }
     if c > 57 {
-        return Number::Odd;
+        return Err(NotFigure::Odd);
     }
     match number {
-        Number::Is(n) => digit_on(n, c - 48),
-        Number::Above => Number::Above,
-        Number::Odd => Number::Odd,
+        Ok(n) => digit_on(n, c - 48),
+        Err(e) => Err(e),
     }
 }
 
@@ -114,11 +113,11 @@ fn named(letters: u64) -> Name
 }
 
 // The byte that two characters are, of a word with so many.
-fn byte_of(first: u8, second: u8, count: u8) -> Byte
+fn byte_of(first: u8, second: u8, count: u8) -> Option<u8>
     ensures { result ≡ byte_of first second count }
 {
     if count != 2 {
-        return Byte::Odd;
+        return None;
     }
     figures::hex(&[first, second])
 }

@@ -1,5 +1,6 @@
 -- A number in decimal is made of digits, which read as that number, digit by digit.
 -- Assumes nothing.
+use Rattle.std.specs.Prelude.{Ok}
 use mathlib.Core.Path.{◌≡◌, refl, subst, ◌∙◌}
 use mathlib.Core.Bool.{Bool, true, false, not, ◌&&◌, ◌||◌}
 use mathlib.Core.List.{List, [], ◌∷◌, ◌++◌}
@@ -15,7 +16,6 @@ use Rattle.text.specs.Text.{digit, digits, decimal}
 use Rattle.text.proofs.Decimal.{decimal_some}
 use Rattle.figures.specs.Figures.{between, all_digits_meant, continued}
 use Rattle.figures.specs.Figures as figures
-use Rattle.lines.specs.declared.Number.{Number}
 use Rattle.lines.specs.Text.{blank, newline, hash}
 use Rattle.lines.specs.Words.{largest, number}
 use Rattle.lines_laws.specs.Printed.{plain, NumbersBack}
@@ -76,7 +76,7 @@ digits_plain (c ∷ cs) e =
     let low = and_parts (leb 48 c) (leb c 57) parts.0 in
     simp (no_mark c (leb-true 48 c low.0), digits_plain cs parts.1)
 
-reads : (n : ℕ) → n ≤ largest → number (decimal n) ≡ Number.Is n
+reads : (n : ℕ) → n ≤ largest → number (decimal n) ≡ Ok n
 unfolding number figures.decimal decimal
 reads n h =
     let some : 0 < length (digits 20 n) = decimal_some n in

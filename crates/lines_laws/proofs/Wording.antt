@@ -10,8 +10,8 @@ use lib.ListN.{length}
 use borrow.Author.Tests.{ne_eqb}
 use Rattle.words.specs.Answer.{pick}
 use Rattle.figures.specs.Figures.{hex}
-use Rattle.figures.specs.declared.Byte.{Byte}
-use Rattle.lines.specs.declared.Number.{Number}
+use Rattle.std.specs.Prelude.{Option, Some, Result}
+use Rattle.figures.specs.declared.NotFigure.{NotFigure}
 use Rattle.lines.specs.declared.Name.{Name}
 use Rattle.lines.specs.declared.Word.{Word}
 use Rattle.lines.specs.declared.TextLine.{TextLine}
@@ -54,7 +54,7 @@ unfolding spelled
 three_stay w [] e = e
 three_stay w (c ∷ cs) e = three_stay (letter_on w c) cs (three_on w c e)
 
-abbrev byte_in : Letters → Byte
+abbrev byte_in : Letters → Option ℕ
 byte_in w = byte_of w.first w.second w.count
 
 -- A word as two hex digits.
@@ -79,8 +79,8 @@ as_word c cs =
     let w : Letters = spelled no_letters (c ∷ cs) in
     let n : w.number ≡ number (c ∷ cs) = spelled_number no_letters (c ∷ cs) ∙ as_number c cs in
     let m : named w.letters ≡ name (c ∷ cs) = ap named (spelled_letters no_letters (c ∷ cs)) ∙ as_name (c ∷ cs) in
-    ap (λ (x : Number). record { number = x; byte = byte_in w; name = named w.letters }) n
-    ∙ ap (λ (x : Byte). record { number = number (c ∷ cs); byte = x; name = named w.letters }) (as_byte c cs)
+    ap (λ (x : Result ℕ NotFigure). record { number = x; byte = byte_in w; name = named w.letters }) n
+    ∙ ap (λ (x : Option ℕ). record { number = number (c ∷ cs); byte = x; name = named w.letters }) (as_byte c cs)
     ∙ ap (λ (x : Name). record { number = number (c ∷ cs); byte = hex (c ∷ cs); name = x }) m
 
 -- ---- the words of a line

@@ -2,9 +2,8 @@
 -- those words, and a number in decimal is that number. Shown in proofs/Printed.antt and
 -- proofs/Numbers.antt.
 -- Assumes nothing.
-use Rattle.std.specs.Prelude.{ℕ, ◌≤◌, ◌<◌, ◌≡◌, Bool, true, not, ◌&&◌, ◌||◌, List, [], ◌∷◌, ◌++◌, length}
+use Rattle.std.specs.Prelude.{ℕ, ◌≤◌, ◌<◌, ◌≡◌, Bool, true, not, ◌&&◌, ◌||◌, List, [], ◌∷◌, ◌++◌, length, Ok}
 use Rattle.text.specs.Text.{decimal}
-use Rattle.lines.specs.declared.Number.{Number}
 use Rattle.lines.specs.Text.{blank, newline, hash, words_of}
 use Rattle.lines.specs.Words.{largest, number}
 use Rattle.lines_laws.specs.Laws.{OneLine}
@@ -37,4 +36,4 @@ WordsBack =
 -- A number that is printed is a word, and is read as that number.
 pub record NumbersBack : Type 0 where
   pub a_word : (n : ℕ) → AWord (decimal n)
-  pub reads : (n : ℕ) → n ≤ largest → number (decimal n) ≡ Number.Is n
+  pub reads : (n : ℕ) → n ≤ largest → number (decimal n) ≡ Ok n

@@ -6,15 +6,14 @@
 // be said of a program's reads and writes stands in docs/EXCEPTIONS.md.
 #![tactic(auto)]
 
-use console::{PairAsked, Source, System, is_input};
-use telegram::Pair;
+use console::{Source, System, is_input};
 
 // The argument of the line's file.
 const FILE: usize = 1;
 
 // The contacts of the open file, if the sync pair is good.
 fn listen(rt: &impl System, from: &mut Source, s: u8, t: u8) {
-    let Pair::Good = telegram::good_pair(s, t) else {
+    let Ok(()) = telegram::good_pair(s, t) else {
         console::refuse_here(rt, b"listen", 4);
         return;
     };
@@ -39,7 +38,7 @@ fn main(rt: HostRuntime) {
         console::usage(&rt, b"listen", b"listen FILE S S*");
         return;
     }
-    if let PairAsked::Is(s, t) = console::sync_pair(&rt, b"listen", 2) {
+    if let Ok((s, t)) = console::sync_pair(&rt, b"listen", 2) {
         open(&rt, s, t);
     }
 }

@@ -8,21 +8,19 @@
 
 mod riding;
 
-use console::OptionsWent;
+use console::CallWrong;
 
 fn main(rt: HostRuntime) {
-    let asked = leads::options(&rt, b"live", false);
-    let store = asked.store;
-    let first = asked.first;
-    let how = asked.how;
-    match how {
-        OptionsWent::Plain => riding::all(&rt, store, first),
-        OptionsWent::Settings => riding::all(&rt, store, first),
-        OptionsWent::Usage => console::usage(
+    match leads::options(&rt, b"live", false) {
+        Ok(asked) => {
+            let store = asked.store;
+            riding::all(&rt, store, asked.first);
+        }
+        Err(CallWrong::Usage) => console::usage(
             &rt,
             b"live",
             b"live S S* [LEAD..], or live -s SETTINGS [LEAD..]",
         ),
-        OptionsWent::Said => {}
+        Err(CallWrong::Said) => {}
     }
 }

@@ -1,63 +1,48 @@
 // The leads, piece by piece: in through `list_frames`, out to standard output.
-ghost use Rattle.std.specs.Prelude.{◌≤◌, length};
-
 use console::System;
 use lead_text::{HowFar, Underway};
 use ride::Ride;
 use ride_text::REASONS;
 use settings::Store;
 
-// Where the program stands: the ride under way, and whether all so far went well.
-#[derive(Clone, Copy)]
-struct RiddenSoFar {
-    underway: Underway,
-    is_good: bool,
-}
-
 // Writes the first bytes of a buffer, and says so where that fails.
 fn write(rt: &impl System, out: &[u8], count: usize) -> bool {
     console::put(rt, b"live", out, count)
 }
 
-// The lines of the first `count` bytes of the block, whole frames: as far as the room goes, and
-// again, until they are used.
+// The lines of whole frames, as far as the room goes, and again, until they are used; the ride under
+// way after them, if they could be written.
 fn piece(
     rt: &impl System,
     from: Underway,
     store: Store,
-    block: &[u8],
-    count: usize,
+    frames: &[u8],
     out: &mut [u8],
-) -> RiddenSoFar
-    requires { count ≤ length block.now }
-{
+) -> Option<Underway> {
     let mut underway = from;
-    let mut turns = u64::MAX;
-    while turns > 0 {
-        let written = lead_text::list_frames(underway, store, &block[..count], out);
+    for _ in 0..u64::MAX {
+        let written = lead_text::list_frames(underway, store, frames, out);
         let then = written.underway;
         underway = then;
         let how = written.how;
         match how {
-            HowFar::Over(bytes) => {
-                let is_good = write(rt, out, bytes);
-                return RiddenSoFar { underway, is_good };
+            Ok(HowFar::Over(bytes)) => {
+                if write(rt, out, bytes) {
+                    return Some(underway);
+                }
+                return None;
             }
-            HowFar::Full(bytes) => {
+            Ok(HowFar::Full(bytes)) => {
                 if !write(rt, out, bytes) {
-                    break;
+                    return None;
                 }
             }
-            HowFar::Settings(_) => {
-                break;
+            Err(_) => {
+                return None;
             }
         }
-        turns -= 1;
     }
-    RiddenSoFar {
-        underway,
-        is_good: false,
-    }
+    None
 }
 
 // The line of a group that the end of the ride closes.
@@ -71,7 +56,7 @@ fn end(rt: &impl System, from: Underway, store: Store, out: &mut [u8]) {
     let written = lead_text::list_end(from, store, out);
     let underway = written.underway;
     let how = written.how;
-    let HowFar::Over(bytes) = how else {
+    let Ok(HowFar::Over(bytes)) = how else {
         return;
     };
     if write(rt, out, bytes) {
@@ -80,48 +65,20 @@ fn end(rt: &impl System, from: Underway, store: Store, out: &mut [u8]) {
     }
 }
 
-// What comes after the last piece: the end, or what failed.
-fn finish(
-    rt: &impl System,
-    how: leads::ReadingGoes,
-    underway: Underway,
-    store: Store,
-    out: &mut [u8],
-) {
-    match how {
-        leads::ReadingGoes::End => end(rt, underway, store, out),
-        leads::ReadingGoes::CannotOpen(_) => leads::say(rt, b"live", how),
-        leads::ReadingGoes::CannotRead(_) => leads::say(rt, b"live", how),
-        leads::ReadingGoes::NoRoom => {}
-        leads::ReadingGoes::More => {}
-    }
-}
-
-// All leads from this argument on. A proved loop has to end, and nothing says that a lead does: so
-// it counts its turns down from a number that no run uses up.
+// All leads from this argument on, and the lines of their end.
 pub fn all(rt: &impl System, store: Store, first: usize) {
     let mut block = [0u8; 65536];
     let mut out = [0u8; 65536];
-    let mut stand = RiddenSoFar {
-        underway: lead_text::fresh(),
-        is_good: true,
-    };
-    let mut from = leads::begin(first);
-    let mut turns = u64::MAX;
-    while turns > 0 {
-        let got = leads::next_piece(rt, from, &mut block);
-        let underway = stand.underway;
-        stand = piece(rt, underway, store, &block, got.length, &mut out);
-        if !stand.is_good {
-            return;
-        }
-        from = got.leads;
-        let how = got.how;
-        let leads::ReadingGoes::More = how else {
-            let last = stand.underway;
-            finish(rt, how, last, store, &mut out);
-            return;
+    let mut underway = lead_text::fresh();
+    let went = leads::over_leads(rt, first, &mut block, |frames| {
+        let Some(then) = piece(rt, underway, store, frames, &mut out) else {
+            return false;
         };
-        turns -= 1;
+        underway = then;
+        true
+    });
+    match went {
+        Ok(_) => end(rt, underway, store, &mut out),
+        Err(failed) => leads::say(rt, b"live", Err(failed)),
     }
 }

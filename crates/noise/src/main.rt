@@ -9,8 +9,7 @@
 mod call;
 mod pieces;
 
-use call::NoiseAsked;
-use console::System;
+use console::{CallWrong, System};
 
 // The lead with noise, by way of a block of 65,536 bytes.
 fn send(rt: &impl System, seed: u32, chance: u32) {
@@ -23,8 +22,8 @@ fn main(rt: HostRuntime) {
         return;
     }
     match call::arguments(&rt) {
-        NoiseAsked::For { seed, chance } => send(&rt, seed, chance),
-        NoiseAsked::Usage => console::usage(&rt, b"noise", b"noise SEED N [LEAD]"),
-        NoiseAsked::Said => {}
+        Ok(call) => send(&rt, call.seed, call.chance),
+        Err(CallWrong::Usage) => console::usage(&rt, b"noise", b"noise SEED N [LEAD]"),
+        Err(CallWrong::Said) => {}
     }
 }

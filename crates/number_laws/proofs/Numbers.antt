@@ -9,9 +9,10 @@ use Rattle.words.specs.Answer.{Outcome, gives, refuses, then, pick}
 use Rattle.words.specs.Why.{not_code_word}
 use Rattle.words.specs.Plain.{figure}
 use Rattle.words.specs.Code.{exchanged}
-use Rattle.words.specs.Says.{says_long_read}
-use Rattle.words.specs.declared.LongRead.{LongRead}
+use Rattle.words.specs.Says.{says_read}
 use Rattle.words.proofs.Told.{told as once}
+use Rattle.std.specs.Prelude.{Result}
+use Rattle.words.specs.declared.NotCode.{NotCode}
 use Rattle.telegram.specs.Sync.{is_good}
 use Rattle.telegram.specs.Spelling.{asked, too_large, has_fifteen, words_of, spell}
 use Rattle.words_list.proofs.Alike.{printed}
@@ -26,10 +27,10 @@ use Rattle.demands.proofs.Demand1.{demand1}
 use Rattle.demands.proofs.Demand1.Writes.{above_is, fifteen_is}
 use Rattle.number_laws.specs.Numbers.{ReadByList, NumbersDecided}
 
-by_list : (w : ℕ) (r : LongRead) → ReadByList w r → Decided (Is (figure 16 (exchanged 16 w))) (row_of (not_code_word 16 w) (not_code 16 w) ∷ []) (says_long_read r)
+by_list : (w : ℕ) (r : Result ℕ NotCode) → ReadByList w r → Decided (Is (figure 16 (exchanged 16 w))) (row_of (not_code_word 16 w) (not_code 16 w) ∷ []) (says_read r)
 by_list w r c =
     let first = printed.answered w in
-    subst (λ (q : LongRead). Decided (Is (figure 16 (exchanged 16 w))) (row_of (not_code_word 16 w) (not_code 16 w) ∷ []) (says_long_read q))
+    subst (λ (q : Result ℕ NotCode). Decided (Is (figure 16 (exchanged 16 w))) (row_of (not_code_word 16 w) (not_code 16 w) ∷ []) (says_read q))
     (printed.same w first.0 r first.1.0 c) (demand1.read_long w first.0 first.1.0)
 
 module _ (x y z s t : ℕ) where

@@ -15,9 +15,11 @@ use Rattle.contact.specs.declared.Judged.{Judged}
 use Rattle.antenna.specs.Says.{says_until}
 use Rattle.antenna.proofs.Determined.{until_of, until_back}
 use Rattle.telegram.specs.Spelling.{asked, too_large, has_fifteen, words_of, spell}
-use Rattle.recorder.specs.Record.{Content, Made, made, Recording, informed, bytes_of, content_of, at_odometer, record_of_meant, recording, eight_zeroes}
-use Rattle.recorder.specs.Says.{says_went}
-use Rattle.recorder.proofs.Determined.{went_of, went_back}
+use Rattle.recorder.specs.Record.{Content, Made, made, whether, informed, bytes_of, content_of, at_odometer, record_of_meant}
+use Rattle.recorder.specs.Says.{says_recorded}
+use Rattle.std.specs.Prelude.{Result, Ok}
+use Rattle.recorder.specs.declared.RecordRefused.{RecordRefused}
+use Rattle.recorder.proofs.Determined.{recorded_of, recorded_back}
 use Rattle.recording.specs.Frame.{odometer_of}
 use Rattle.recording_text.specs.Counts.{judge_frame, with_frame, over_frames, count_frames}
 use Rattle.recording_text.specs.declared.Frames.{Frames}
@@ -39,11 +41,11 @@ skip Reading n rules o rest = (λ e. absurd (true_not_false (sym e)), λ e. rest
 abbrev far : ℕ → Outcome Made
 far odometer = pick (too_high odometer) (refuses 18) (gives made)
 
-at_so : (odometer : ℕ) (c : Content) → (recording (at_odometer odometer c)).answer ≡ far odometer
+at_so : (odometer : ℕ) (c : Content) → (whether (at_odometer odometer c)) ≡ far odometer
 unfolding at_odometer too_high
 at_so odometer c = go (ltb 4000000000 odometer)
   where
-    go : (t : Bool) → (recording (pick t (refuses 18) (gives (bytes_of odometer c)))).answer ≡ pick t (refuses 18) (gives made)
+    go : (t : Bool) → (whether (pick t (refuses 18) (gives (bytes_of odometer c)))) ≡ pick t (refuses 18) (gives made)
     go true = refl
     go false = refl
 
@@ -59,25 +61,25 @@ before_far_law odometer =
     skip (Is made) 4 (row 5 false ∷ row 18 (too_high odometer) ∷ []) (far odometer)
     (skip (Is made) 5 (row 18 (too_high odometer) ∷ []) (far odometer) (far_so odometer))
 
-blank_so : (odometer : ℕ) (c : Content) → Decided (Is made) (row 2 false ∷ row 3 false ∷ before_far odometer) (recording (at_odometer odometer c)).answer
+blank_so : (odometer : ℕ) (c : Content) → Decided (Is made) (row 2 false ∷ row 3 false ∷ before_far odometer) (whether (at_odometer odometer c))
 blank_so odometer c =
     subst (λ (o : Outcome Made). Decided (Is made) (row 2 false ∷ row 3 false ∷ before_far odometer) o) (sym (at_so odometer c))
     (skip (Is made) 2 (row 3 false ∷ before_far odometer) (far odometer) (skip (Is made) 3 (before_far odometer) (far odometer) (before_far_law odometer)))
 
 -- A reading: its figures first.
 read_told : (odometer : ℕ) (m : Telegram)
-    → (recording (then (informed (spell m)) (at_odometer odometer))).answer ≡ pick (too_large m) (refuses 2) (pick (has_fifteen m) (refuses 3) (far odometer))
+    → (whether (then (informed (spell m)) (at_odometer odometer))) ≡ pick (too_large m) (refuses 2) (pick (has_fifteen m) (refuses 3) (far odometer))
 unfolding spell
 read_told odometer m = go (too_large m) (has_fifteen m)
   where
-    go : (a f : Bool) → (recording (then (informed (pick a (refuses 2) (pick f (refuses 3) (gives (words_of m))))) (at_odometer odometer))).answer
+    go : (a f : Bool) → (whether (then (informed (pick a (refuses 2) (pick f (refuses 3) (gives (words_of m))))) (at_odometer odometer)))
         ≡ pick a (refuses 2) (pick f (refuses 3) (far odometer))
     go true f = refl
     go false true = refl
     go false false = at_so odometer (record { kind = 0; x = (words_of m).x; y = (words_of m).y; z = (words_of m).z })
 
 read_so : (odometer : ℕ) (m : Telegram)
-    → Decided (Is made) (row 2 (too_large m) ∷ row 3 (has_fifteen m) ∷ before_far odometer) (recording (then (informed (spell m)) (at_odometer odometer))).answer
+    → Decided (Is made) (row 2 (too_large m) ∷ row 3 (has_fifteen m) ∷ before_far odometer) (whether (then (informed (spell m)) (at_odometer odometer)))
 read_so odometer m =
     subst (λ (o : Outcome Made). Decided (Is made) (row 2 (too_large m) ∷ row 3 (has_fifteen m) ∷ before_far odometer) o) (sym (read_told odometer m))
     (if_so (Is made) (row 3 (has_fifteen m) ∷ before_far odometer) (refuses 2) (pick (has_fifteen m) (refuses 3) (far odometer))
@@ -87,14 +89,14 @@ number_is : (m : ℕ) → (above 2047 m ≡ too_large (Telegram.Number m)) × (f
 unfolding above too_large has_fifteen
 number_is m = (refl, refl)
 
-record_so : (odometer : ℕ) (j : Judged) → Decided (Is made) (making_rules odometer j) (recording (record_of_meant odometer j)).answer
+record_so : (odometer : ℕ) (j : Judged) → Decided (Is made) (making_rules odometer j) (whether (record_of_meant odometer j))
 unfolding record_of_meant content_of
 record_so odometer (Judged.Read (Telegram.Figures x y z) first count) = rw (above_is x y z, fifteen_is x y z) (read_so odometer (asked x y z))
 record_so odometer (Judged.Read (Telegram.Number m) first count) =
-    subst (λ (t : Bool). Decided (Is made) (row 2 t ∷ row 3 false ∷ before_far odometer) (recording (then (informed (spell (Telegram.Number m))) (at_odometer odometer))).answer)
+    subst (λ (t : Bool). Decided (Is made) (row 2 t ∷ row 3 false ∷ before_far odometer) (whether (then (informed (spell (Telegram.Number m))) (at_odometer odometer))))
     (sym (number_is m).0)
     (subst
-    (λ (t : Bool). Decided (Is made) (row 2 (too_large (Telegram.Number m)) ∷ row 3 t ∷ before_far odometer) (recording (then (informed (spell (Telegram.Number m))) (at_odometer odometer))).answer)
+    (λ (t : Bool). Decided (Is made) (row 2 (too_large (Telegram.Number m)) ∷ row 3 t ∷ before_far odometer) (whether (then (informed (spell (Telegram.Number m))) (at_odometer odometer))))
     (sym (number_is m).1) (read_so odometer (Telegram.Number m)))
 record_so odometer Judged.Marker = blank_so odometer (record { kind = 1; x = 0; y = 0; z = 0 })
 record_so odometer Judged.Differ = blank_so odometer (record { kind = 2; x = 0; y = 0; z = 0 })
@@ -105,17 +107,15 @@ record_so odometer Judged.Beyond =
     (λ e. absurd (true_not_false (sym e)), λ e. (λ e. absurd (true_not_false (sym e)), λ e. (λ e. absurd (true_not_false (sym e)), λ e. (λ e. refl, λ e. absurd (true_not_false e)))))
 
 -- A refusal has no bytes.
-zeroes : (o : Outcome (List ℕ)) (n : ℕ) → (recording o).answer ≡ refuses n → (recording o).bytes ≡ eight_zeroes
-zeroes (gives bytes) n e = cannot_be cc
-zeroes (refuses m) n e = refl
+no_bytes : (r : Result (List ℕ) RecordRefused) (n : ℕ) (bytes : List ℕ) → says_recorded r ≡ refuses n → r ≡ Ok bytes → ⊥
+no_bytes r n bytes e is = let made : gives bytes ≡ refuses n = sym (ap says_recorded is) ∙ e in cannot_be cc
 
 pub records_decided : RecordsDecided
 records_decided = record {
-  record_of = λ odometer j r c. let e = ap (λ (x : Recording). x.answer) c.1 in rw e (record_so odometer j);
-  went = λ n r r' p q. once says_went went_of went_back r r' p q;
+  record_of = λ odometer j r c. let e = ap whether c.1 in rw e (record_so odometer j);
+  went = λ n r r' p q. once says_recorded recorded_of recorded_back r r' p q;
   heard = λ n r r' p q. once says_until until_of until_back r r' p q;
-  no_bytes = λ odometer j r n c e.
-      ap (λ (x : Recording). x.bytes) c.1 ∙ zeroes (record_of_meant odometer j) n (sym (ap (λ (x : Recording). x.answer) c.1) ∙ e);
+  no_bytes = λ odometer j r n bytes c e is. no_bytes r n bytes e is;
 }
 
 -- ---- frames

@@ -2,14 +2,14 @@
 -- long code, by the printed list, and what tells whether a balise can be heard. Each refuses with
 -- the first number of its list whose condition holds, and reads exactly if none does.
 -- Assumes nothing.
-use Rattle.std.specs.Prelude.{ℕ, [], ◌∷◌}
+use Rattle.std.specs.Prelude.{ℕ, [], ◌∷◌, Result}
 use borrow.Fn.Kinds.{ended_of}
 use denote.Triple.Clauses.{AtExit}
 use Rattle.words.specs.Why.{not_code_word}
 use Rattle.words.specs.Plain.{figure}
 use Rattle.words.specs.Code.{exchanged}
-use Rattle.words.specs.Says.{says_long_read}
-use Rattle.words.specs.declared.LongRead.{LongRead}
+use Rattle.words.specs.Says.{says_read}
+use Rattle.words.specs.declared.NotCode.{NotCode}
 use Rattle.words_list.proofs.read_long.Kinds as list_kinds
 use Rattle.words_list.proofs.read_long.Reads as list_reads
 use Rattle.audibility.specs.Says.{says_sound}
@@ -22,7 +22,7 @@ use Rattle.demands.specs.Table02.{some_above, some_fifteen}
 use Rattle.demands.specs.Untouched.{Bare}
 
 -- The contract of `words_list::read_long` allows the answer r for the word w.
-abbrev pub ReadByList : ℕ → LongRead → Type 0
+abbrev pub ReadByList : ℕ → Result ℕ NotCode → Type 0
 ReadByList w r = (x : AtExit (ended_of 0 list_kinds.ps list_kinds.r) tt) × list_reads.Post tt (w, tt) r x
 
 -- The contract of `audibility::sound_of` allows the answer r for these figures and sync words.
@@ -31,8 +31,8 @@ SoundOf x y z s t r = (e : AtExit (ended_of 0 sound_kinds.ps sound_kinds.r) tt) 
 
 pub record NumbersDecided : Type 0 where
   -- 1, as the reader by checks has it
-  pub read_by_list : (w : ℕ) (r : LongRead) → ReadByList w r
-      → Decided (Is (figure 16 (exchanged 16 w))) (row_of (not_code_word 16 w) (not_code 16 w) ∷ []) (says_long_read r)
+  pub read_by_list : (w : ℕ) (r : Result ℕ NotCode) → ReadByList w r
+      → Decided (Is (figure 16 (exchanged 16 w))) (row_of (not_code_word 16 w) (not_code 16 w) ∷ []) (says_read r)
   -- 2 and 3 for what is to be sent, then 4 for the pair
   pub sound_of_law : (x y z s t : ℕ) (r : Sound) → SoundOf x y z s t r
       → Decided Given (row 2 (some_above x y z) ∷ row 3 (some_fifteen x y z) ∷ row 4 (not_seven s t) ∷ []) (says_sound r)

@@ -3,7 +3,7 @@
 -- number of its list whose condition holds, and a refusal hands out no figure; nor does one of
 -- `antenna::hear_piece`, whose list is in recording_laws.
 -- Assumes nothing.
-use Rattle.std.specs.Prelude.{ℕ, ◌*◌, ◌<◌, ◌≡◌, Bool, true, false, List, [], ◌∷◌, ◌++◌, ltb, length}
+use Rattle.std.specs.Prelude.{ℕ, ◌*◌, ◌<◌, ◌≡◌, Bool, true, false, List, [], ◌∷◌, ◌++◌, ltb, length, Result, Ok}
 use contract.Lifetimes.{Lfts}
 use Rattle.std.specs.Borrow.{Bor}
 use borrow.Fn.Kinds.{ended_of}
@@ -12,9 +12,9 @@ use Rattle.words.specs.Answer.{Outcome, refuses}
 use Rattle.telegram.specs.declared.Telegram.{Telegram}
 use Rattle.contact.specs.declared.Judged.{Judged}
 use Rattle.antenna.specs.Says.{says_until}
-use Rattle.recorder.specs.Record.{Made, made, eight_zeroes}
-use Rattle.recorder.specs.Says.{says_went}
-use Rattle.recorder.specs.declared.Recorded.{Recorded}
+use Rattle.recorder.specs.Record.{Made, made, whether}
+use Rattle.recorder.specs.Says.{says_recorded}
+use Rattle.recorder.specs.declared.RecordRefused.{RecordRefused}
 use Rattle.recorder.proofs.record_of.Kinds as record_kinds
 use Rattle.recorder.proofs.record_of.Reads as record_reads
 use Rattle.recording.specs.Frame.{odometer_of}
@@ -30,7 +30,7 @@ use Rattle.demands.specs.Untouched.{Bare}
 -- ---- a record of a judged contact
 
 -- The contract of `record_of` allows the answer r for this odometer and this judgement.
-abbrev pub RecordOf : ℕ → Judged → Recorded → Type 0
+abbrev pub RecordOf : ℕ → Judged → Result (List ℕ) RecordRefused → Type 0
 RecordOf odometer j r = (e : AtExit (ended_of 0 record_kinds.ps record_kinds.r) tt) × record_reads.Post tt (odometer, (j, tt)) r e
 
 -- 2: the figures that were judged are some that no telegram has. (`judge` never answers such; a
@@ -78,11 +78,11 @@ making_rules odometer j =
     row 2 (figure_above j) ∷ row 3 (figure_fifteen j) ∷ row 4 (was_not_seven j) ∷ row 5 (was_beyond j) ∷ row 18 (too_high odometer) ∷ []
 
 pub record RecordsDecided : Type 0 where
-  pub record_of : (odometer : ℕ) (j : Judged) (r : Recorded) → RecordOf odometer j r → Decided (Is made) (making_rules odometer j) (says_went r.went)
+  pub record_of : (odometer : ℕ) (j : Judged) (r : Result (List ℕ) RecordRefused) → RecordOf odometer j r → Decided (Is made) (making_rules odometer j) (whether (says_recorded r))
   -- no refusal carries a figure, and no byte of a record
-  pub went : Bare says_went
+  pub went : Bare says_recorded
   pub heard : Bare says_until
-  pub no_bytes : (odometer : ℕ) (j : Judged) (r : Recorded) (n : ℕ) → RecordOf odometer j r → says_went r.went ≡ refuses n → r.bytes ≡ eight_zeroes
+  pub no_bytes : (odometer : ℕ) (j : Judged) (r : Result (List ℕ) RecordRefused) (n : ℕ) (bytes : List ℕ) → RecordOf odometer j r → says_recorded r ≡ refuses n → r ≡ Ok bytes → ⊥
 
 -- ---- the frames of a lead
 

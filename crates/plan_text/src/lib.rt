@@ -9,17 +9,11 @@ ghost use Rattle.trace_text.specs.Record.{bytes_of};
 ghost use Rattle.plan_text.specs.Entry.{kind_of, entered, at_place, entry};
 ghost use Rattle.trace_text.specs.Said.{nth};
 
-use lines::{Name, Number, TextLine};
+use lines::{Name, TextLine, Word};
 use trace_text::What;
 
-// The kind of an entry, 0 to 4, or none.
-#[derive(Clone, Copy)]
-enum KindNumber {
-    Is(u8),
-    Odd,
-}
-
 // What a line says: nothing, an entry at a place in dm, or it is unreadable.
+// Stays as it is: a `Result<Option<..>, ..>` is no plainer, since a line has three plain ends.
 #[derive(Clone, Copy)]
 pub enum Entry {
     Nothing,
@@ -27,31 +21,31 @@ pub enum Entry {
     Unreadable,
 }
 
-// The kind that a name is.
-fn kind_of(name: Name) -> KindNumber
+// The kind that a name is, 0 to 4, or none.
+fn kind_of(name: Name) -> Option<u8>
     ensures { result ≡ kind_of name }
 {
     match name {
-        Name::Signal => KindNumber::Is(0),
-        Name::Warning => KindNumber::Is(1),
-        Name::Annulled => KindNumber::Is(2),
-        Name::Line => KindNumber::Is(3),
-        Name::Route => KindNumber::Is(4),
-        Name::Other => KindNumber::Odd,
-        Name::Marker => KindNumber::Odd,
-        Name::Unreadable => KindNumber::Odd,
-        Name::Position => KindNumber::Odd,
-        Name::Raw => KindNumber::Odd,
+        Name::Signal => Some(0),
+        Name::Warning => Some(1),
+        Name::Annulled => Some(2),
+        Name::Line => Some(3),
+        Name::Route => Some(4),
+        Name::Other => None,
+        Name::Marker => None,
+        Name::Unreadable => None,
+        Name::Position => None,
+        Name::Raw => None,
     }
 }
 
 // An entry of a kind, at its place.
-fn entered(place: u32, kind: KindNumber) -> Entry
+fn entered(place: u32, kind: Option<u8>) -> Entry
     ensures { result ≡ entered place kind }
 {
     match kind {
-        KindNumber::Is(k) => Entry::At { place, kind: k },
-        KindNumber::Odd => Entry::Unreadable,
+        Some(kind) => Entry::At { place, kind },
+        None => Entry::Unreadable,
     }
 }
 
@@ -59,15 +53,12 @@ fn entered(place: u32, kind: KindNumber) -> Entry
 fn two(line: TextLine) -> Entry
     ensures { result ≡ at_place (nth line 0).number (kind_of (nth line 1).name) }
 {
-    let words = line.words;
+    let words: &[Word] = &line.words;
     let first = words[0];
     let second = words[1];
-    let number = first.number;
-    let name = second.name;
-    match number {
-        Number::Is(place) => entered(place, kind_of(name)),
-        Number::Above => Entry::Unreadable,
-        Number::Odd => Entry::Unreadable,
+    match first.number {
+        Ok(place) => entered(place, kind_of(second.name)),
+        Err(_) => Entry::Unreadable,
     }
 }
 

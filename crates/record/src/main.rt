@@ -11,7 +11,7 @@
 mod out;
 mod pieces;
 
-use console::{OptionsWent, System};
+use console::{CallWrong, System};
 use settings::Store;
 
 // The records of the leads from this argument on, but not to a terminal.
@@ -22,18 +22,16 @@ fn record(rt: &impl System, store: Store, first: usize) {
 }
 
 fn main(rt: HostRuntime) {
-    let asked = leads::options(&rt, b"record", true);
-    let store = asked.store;
-    let first = asked.first;
-    let how = asked.how;
-    match how {
-        OptionsWent::Plain => record(&rt, store, first),
-        OptionsWent::Settings => record(&rt, store, first),
-        OptionsWent::Usage => console::usage(
+    match leads::options(&rt, b"record", true) {
+        Ok(asked) => {
+            let store = asked.store;
+            record(&rt, store, asked.first);
+        }
+        Err(CallWrong::Usage) => console::usage(
             &rt,
             b"record",
             b"record S S* [LEAD..], or record -s SETTINGS [LEAD..]",
         ),
-        OptionsWent::Said => {}
+        Err(CallWrong::Said) => {}
     }
 }

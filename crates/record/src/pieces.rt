@@ -1,11 +1,8 @@
 // The leads, piece by piece.
-ghost use Rattle.std.specs.Prelude.{◌≤◌, length};
-
 use crate::out;
 use crate::out::RecordsOut;
-use console::System;
-use leads::ReadingGoes;
-use recording::{Came, Tape};
+use console::{PassFailed, System};
+use recording::Tape;
 use recording_text::{Frames, Records};
 use settings::Store;
 
@@ -49,14 +46,12 @@ fn over(
         tape = next;
         frame = taken.frame;
         bit = taken.bit;
-        let came = taken.came;
-        let bytes = taken.bytes;
-        match came {
-            Came::Record => {
+        match taken.came {
+            Some(bytes) => {
                 records = recording_text::count_record(records, bytes);
                 out = out::add(rt, out, bytes, buf);
             }
-            Came::Nothing => {
+            None => {
                 let frames = from.frames;
                 let is_good = out::flush(rt, out, buf);
                 return RecordedSoFar {
@@ -70,21 +65,18 @@ fn over(
     }
 }
 
-// The same for the front of the block, so many bytes long.
-fn front(
+// The same of a piece whose frames are not counted yet.
+fn counted(
     rt: &impl System,
     from: RecordedSoFar,
     store: Store,
-    block: &[u8],
-    count: usize,
+    piece: &[u8],
     buf: &mut [u8],
-) -> RecordedSoFar
-    requires { count ≤ length block.now }
-{
+) -> RecordedSoFar {
     let tape = from.tape;
     let records = from.records;
     let before = from.frames;
-    let frames = count_frames(rt, before, &block[..count]);
+    let frames = count_frames(rt, before, piece);
     over(
         rt,
         RecordedSoFar {
@@ -94,7 +86,7 @@ fn front(
             is_good: from.is_good,
         },
         store,
-        &block[..count],
+        piece,
         buf,
     )
 }
@@ -108,21 +100,17 @@ fn end(rt: &impl System, from: RecordedSoFar) -> RecordedSoFar {
         length: 0,
         is_good: true,
     };
-    let mut turns: u32 = 2;
-    while turns > 0 {
+    for _ in 0..2u32 {
         let ended = recording::end(tape);
         let next = ended.tape;
         tape = next;
-        let came = ended.came;
-        let bytes = ended.bytes;
-        match came {
-            Came::Record => {
+        match ended.came {
+            Some(bytes) => {
                 records = recording_text::count_record(records, bytes);
                 out = out::add(rt, out, bytes, &mut buf);
-                turns -= 1;
             }
-            Came::Nothing => {
-                turns = 0;
+            None => {
+                break;
             }
         }
     }
@@ -149,17 +137,6 @@ fn at_end(rt: &impl System, from: RecordedSoFar, bytes: usize) {
     out::say_end(rt, frames, records, bytes);
 }
 
-// What comes after the last piece: the end, or what failed.
-fn finish(rt: &impl System, how: ReadingGoes, stand: RecordedSoFar, bytes: usize) {
-    match how {
-        ReadingGoes::End => at_end(rt, stand, bytes),
-        ReadingGoes::CannotOpen(_) => leads::say(rt, b"record", how),
-        ReadingGoes::CannotRead(_) => leads::say(rt, b"record", how),
-        ReadingGoes::NoRoom => {}
-        ReadingGoes::More => {}
-    }
-}
-
 // A recording that has not begun.
 fn fresh() -> RecordedSoFar {
     RecordedSoFar {
@@ -170,27 +147,18 @@ fn fresh() -> RecordedSoFar {
     }
 }
 
-// All leads from this argument on. A proved loop has to end, and nothing says that a lead does: so
-// it counts its turns down from a number that no run uses up.
+// All leads from this argument on, and their end.
 pub fn all(rt: &impl System, store: Store, first: usize) {
     let mut block = [0u8; 65536];
     let mut buf = [0u8; 65536];
     let mut stand = fresh();
-    let mut from = leads::begin(first);
-    let mut turns = u64::MAX;
-    while turns > 0 {
-        let got = leads::next_piece(rt, from, &mut block);
-        stand = front(rt, stand, store, &block, got.length, &mut buf);
-        if !stand.is_good {
-            out::cannot_write(rt);
-            return;
-        }
-        from = got.leads;
-        let how = got.how;
-        let ReadingGoes::More = how else {
-            finish(rt, how, stand, leads::kept(&from));
-            return;
-        };
-        turns -= 1;
+    let went = leads::over_leads(rt, first, &mut block, |piece| {
+        stand = counted(rt, stand, store, piece, &mut buf);
+        stand.is_good
+    });
+    match went {
+        Ok(bytes) => at_end(rt, stand, bytes),
+        Err(PassFailed::NotTaken) => out::cannot_write(rt),
+        Err(failed) => leads::say(rt, b"record", Err(failed)),
     }
 }

@@ -54,18 +54,10 @@ at_odometer odometer c = pick (ltb 4000000000 odometer) (refuses 18) (gives (byt
 unfoldable pub record_of_meant : ℕ → Judged → Outcome (List ℕ)
 record_of_meant odometer j = then (content_of j) (at_odometer odometer)
 
--- What making a record answers: that it is made, or the number of its refusal; and its bytes, all
--- zero if it is not.
+-- That a record is made, or the number of its refusal: without its bytes.
 pub data Made : Type 0 where
   made : Made
 
-pub record Recording : Type 0 where
-  pub answer : Outcome Made
-  pub bytes : List ℕ
-
-abbrev pub eight_zeroes : List ℕ
-eight_zeroes = 0 ∷ 0 ∷ 0 ∷ 0 ∷ 0 ∷ 0 ∷ 0 ∷ 0 ∷ []
-
-abbrev pub recording : Outcome (List ℕ) → Recording
-recording (gives bytes) = record { answer = gives made; bytes = bytes }
-recording (refuses n) = record { answer = refuses n; bytes = eight_zeroes }
+abbrev pub whether : Outcome (List ℕ) → Outcome Made
+whether (gives bytes) = gives made
+whether (refuses n) = refuses n

@@ -12,12 +12,12 @@ use Rattle.words.specs.Answer.{pick}
 use Rattle.settings.specs.declared.Store.{Store}
 use Rattle.recorder.specs.Record.{bytes_of, blank}
 use Rattle.recording.specs.declared.Tape.{Tape}
-use Rattle.recording.specs.declared.Came.{Came}
+use Rattle.std.specs.Prelude.{Option, Some}
 use Rattle.recording.specs.declared.Taken.{Taken}
 use Rattle.recording.specs.Frame.{line_of}
 use Rattle.recording.specs.Recording.{positioned, is_due, held_at, in_frame_meant, frames_of}
 use Rattle.recording.specs.Asking.{InBits, recorded_at, heard_out, first_in, Going, gave, used_up, or_next, first_of, go_on}
-use Rattle.recording.specs.Says.{Went, went, says_came, says_taken}
+use Rattle.recording.specs.Says.{says_came, says_taken}
 use Rattle.recording.proofs.Asking.{Fine, fine}
 use Rattle.recording.proofs.Turning.{goes}
 
@@ -70,8 +70,8 @@ module _ (store : Store) (lead : List ℕ) where
       none_left (frames_of lead) (left (frames_of lead) k i) tape k i (frames_of lead - k) m
 
   -- Of an answer of `go_on` with a record.
-  pub advances : (tape : Tape) (k i : ℕ) (r : Taken) → says_taken r ≡ went (go_on store lead tape k i) → r.came ≡ Came.Record → left (frames_of lead) r.frame r.bit < left (frames_of lead) k i
-  advances tape k i r e came =
-      let is : gave r.tape r.frame r.bit r.bytes ≡ first_of store lead tape k i (frames_of lead - k) =
-      sym (ap (λ (z : Came). says_came z r.tape r.frame r.bit r.bytes) came) ∙ ap (λ (z : Went). z.going) e ∙ goes store lead tape k i in
+  pub advances : (tape : Tape) (k i : ℕ) (r : Taken) (bytes : List ℕ) → says_taken r ≡ go_on store lead tape k i → r.came ≡ Some bytes → left (frames_of lead) r.frame r.bit < left (frames_of lead) k i
+  advances tape k i r bytes e came =
+      let is : gave r.tape r.frame r.bit bytes ≡ first_of store lead tape k i (frames_of lead - k) =
+      sym (ap (λ (z : Option (List ℕ)). says_came z r.tape r.frame r.bit) came) ∙ e ∙ goes store lead tape k i in
       subst (λ (z : Going). Less (frames_of lead) (left (frames_of lead) k i) z) (sym is) (by_place tape k i (ltb k (frames_of lead)) refl)

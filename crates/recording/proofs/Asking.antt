@@ -14,7 +14,7 @@ use Rattle.settings.specs.declared.Store.{Store}
 use Rattle.antenna.specs.declared.Stand.{Stand}
 use Rattle.antenna.specs.Hearing.{Step, nothing, opened, closed, hear}
 use Rattle.recorder.specs.Record.{bytes_of, blank}
-use Rattle.recording.specs.declared.Last.{Last}
+use Rattle.std.specs.Prelude.{Some}
 use Rattle.recording.specs.declared.Tape.{Tape}
 use Rattle.recording.specs.Frame.{line_of}
 use Rattle.recording.specs.Kept.{record_at}
@@ -172,7 +172,7 @@ above_by : (tape : Tape) (b : Bool) → is_above tape.last tape.odometer ≡ b �
     → pick b (position tape) (silent tape) ≡ then_ended (pick b (one (positioned tape) (bytes_of tape.odometer (blank 3))) (none tape))
 unfolding the_end_meant last_position
 above_by tape true e out =
-    let n : is_above (Last.At tape.odometer) tape.odometer ≡ false = le-ltb tape.odometer tape.odometer (omega arith) in
+    let n : is_above (Some tape.odometer) tape.odometer ≡ false = le-ltb tape.odometer tape.odometer (omega arith) in
     rw (out, n)
 above_by tape false e out = refl
 

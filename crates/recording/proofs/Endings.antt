@@ -8,11 +8,11 @@ use Rattle.antenna.specs.declared.Sound.{Sound}
 use Rattle.antenna.specs.declared.Stand.{Stand}
 use Rattle.recorder.specs.Record.{bytes_of, blank}
 use Rattle.recording.specs.declared.Tape.{Tape}
-use Rattle.recording.specs.declared.Came.{Came}
+use Rattle.std.specs.Prelude.{Option, Some, None}
 use Rattle.recording.specs.declared.Ended.{Ended}
 use Rattle.recording.specs.Recording.{positioned, cut, is_above}
-use Rattle.recording.specs.Asking.{Going, Ending, one, none, finish_in, finish, of_ending}
-use Rattle.recording.specs.Says.{bytes_in, went, says_came, says_taken, Closing, bytes_at, closing, end_came, says_ended}
+use Rattle.recording.specs.Asking.{Ending, one, finish_in, finish, of_ending}
+use Rattle.recording.specs.Says.{says_came, says_taken, end_came, says_ended}
 
 -- Outside a contact and above the last record: a position record.
 pub last_one : (tape next : Tape) (bytes : List ℕ) → tape.ear.stand ≡ Stand.Outside → is_above tape.last tape.odometer ≡ true → next ≡ positioned tape
@@ -28,18 +28,11 @@ cut_one tape next bytes sound inside e b = ap₂ one e b ∙ ap (λ (stand : Sta
 
 -- ---- asked as frames are
 
-came_ended : (c : Came) (k i : ℕ) (tape : Tape) (bytes : List ℕ) → says_came c tape k i bytes ≡ of_ending k i (end_came c tape bytes)
-came_ended Came.Record k i tape bytes = refl
-came_ended Came.Nothing k i tape bytes = refl
-
-bytes_ended : (e : Ending) (k i : ℕ) → bytes_at e ≡ bytes_in (of_ending k i e)
-bytes_ended (one tape bytes) k i = refl
-bytes_ended (none tape) k i = refl
+came_ended : (c : Option (List ℕ)) (k i : ℕ) (tape : Tape) → says_came c tape k i ≡ of_ending k i (end_came c tape)
+came_ended (Some bytes) k i tape = refl
+came_ended None k i tape = refl
 
 -- What the end answers, with the frame and the bit beside it.
-pub ended_is : (k i : ℕ) (w : Ended) (e : Ending) → says_ended w ≡ closing e
-    → says_taken (record { tape = w.tape; frame = k; bit = i; came = w.came; bytes = w.bytes }) ≡ went (of_ending k i e)
-ended_is k i w e says =
-    ap₂ (λ (going : Going) (bytes : List ℕ). record { going = going; bytes = bytes })
-    (came_ended w.came k i w.tape w.bytes ∙ ap (λ (x : Closing). of_ending k i x.ending) says)
-    (ap (λ (x : Closing). x.bytes) says ∙ bytes_ended e k i)
+pub ended_is : (k i : ℕ) (w : Ended) (e : Ending) → says_ended w ≡ e
+    → says_taken (record { tape = w.tape; frame = k; bit = i; came = w.came }) ≡ of_ending k i e
+ended_is k i w e says = came_ended w.came k i w.tape ∙ ap (of_ending k i) says

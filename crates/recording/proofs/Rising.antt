@@ -18,7 +18,7 @@ use Rattle.antenna.specs.Hearing as hearing
 use Rattle.antenna.specs.Sound.{begun, with_bit, judged}
 use Rattle.contact.specs.History.{after, opens as opens_now, closes as closes_now}
 use Rattle.recorder.specs.Record.{bytes_of, blank}
-use Rattle.recording.specs.declared.Last.{Last}
+use Rattle.std.specs.Prelude.{Option}
 use Rattle.recording.specs.declared.Tape.{Tape}
 use Rattle.recording.specs.Frame.{line_of, odometer_of as frame_odometer, accepted_after}
 use Rattle.recording.specs.Kept.{record_at}
@@ -95,7 +95,7 @@ position_rises tape s e =
 not_due : {A : Type 0} → false ≡ true → A
 not_due e = cannot_be cc
 
-due_outside : (stand : Stand) (last : Last) (odometer : ℕ) → due_in stand last odometer ≡ true → stand ≡ Stand.Outside
+due_outside : (stand : Stand) (last : (Option ℕ)) (odometer : ℕ) → due_in stand last odometer ≡ true → stand ≡ Stand.Outside
 due_outside Stand.Outside last odometer e = refl
 due_outside (Stand.Inside sound) last odometer e = not_due e
 

@@ -5,17 +5,16 @@ use Prim.Native.Nat.{ℕ, ◌≤◌}
 use mathlib.Core.Path.{◌≡◌, refl, sym, ap, ◌∙◌, subst⁻¹}
 use mathlib.Core.List.{List, [], ◌∷◌, ◌++◌}
 use Rattle.antenna.specs.declared.Stand.{Stand}
-use Rattle.antenna.specs.Hearing.{opened}
 use Rattle.ride.specs.Record.{odometer_of}
-use Rattle.recording.specs.declared.Last.{Last}
+use Rattle.std.specs.Prelude.{Option, Some, None}
 use Rattle.recording.specs.declared.Tape.{Tape}
 use Rattle.recording.specs.Recording.{Taped, silent, and_then}
 use Rattle.recording.specs.Rising.{AllAccepted}
 use Rattle.recording.proofs.Accepting.{Made, accepts}
 
-abbrev pub last_of : Last → ℕ
-last_of Last.Never = 0
-last_of (Last.At place) = place
+abbrev pub last_of : Option ℕ → ℕ
+last_of None = 0
+last_of (Some place) = place
 
 -- An open contact opened at or after the last record, and not after the odometer in force.
 abbrev pub OpenWithin : Stand → Tape → Type 0
@@ -59,7 +58,7 @@ rises_then from x f a on =
 pub rises_silent : (from next : Tape) → next.last ≡ from.last → Steady next → Rises from (silent next)
 rises_silent from next e s = record { steady = s; all = tt; ends = ap last_of (sym e) }
 
-pub rises_one : (from next : Tape) (odometer : ℕ) (r : List ℕ) → Made odometer r → last_of from.last ≤ odometer → odometer ≤ 4000000000 → next.last ≡ Last.At odometer → Steady next
+pub rises_one : (from next : Tape) (odometer : ℕ) (r : List ℕ) → Made odometer r → last_of from.last ≤ odometer → odometer ≤ 4000000000 → next.last ≡ Some odometer → Steady next
     → Rises from (record { tape = next; records = r ∷ [] })
 rises_one from next odometer r m low high e s =
     record { steady = s; all = (accepts (last_of from.last) odometer r m low high, tt); ends = m.at ∙ ap last_of (sym e) }

@@ -2,7 +2,7 @@
 -- sixteen ones on. Each gives one record, when it closes, at the odometer of the frame in which its
 -- first bit lies; that is 'the odometer given with it', whose sync pair judges it (M-111)."
 -- Assumes nothing.
-use Rattle.std.specs.Prelude.{ℕ, zero, suc, ◌+◌, ◌-◌, ◌/◌, Bool, true, false, List, [], ◌∷◌, ◌++◌, leb, ltb, length}
+use Rattle.std.specs.Prelude.{ℕ, zero, suc, ◌+◌, ◌-◌, ◌/◌, Bool, true, false, List, [], ◌∷◌, ◌++◌, leb, ltb, length, Option, Some, None}
 use Rattle.words.specs.Answer.{pick}
 use Rattle.telegram.specs.Stretch.{bit_at}
 use Rattle.settings.specs.declared.Store.{Store}
@@ -13,7 +13,6 @@ use Rattle.antenna.specs.declared.Stand.{Stand}
 use Rattle.antenna.specs.Hearing.{Step, nothing, opened, closed, hear}
 use Rattle.antenna.specs.Hearing as hearing
 use Rattle.recorder.specs.Record.{bytes_of, blank}
-use Rattle.recording.specs.declared.Last.{Last}
 use Rattle.recording.specs.declared.Tape.{Tape}
 use Rattle.recording.specs.Frame.{line_of, odometer_of, accepted_after}
 use Rattle.recording.specs.Kept.{record_at}
@@ -22,7 +21,7 @@ use Rattle.recording.specs.Kept.{record_at}
 
 -- "(0 before the first)"
 unfoldable pub fresh : Tape
-fresh = record { ear = hearing.fresh; odometer = 0; opened = 0; last = Last.Never }
+fresh = record { ear = hearing.fresh; odometer = 0; opened = 0; last = None }
 
 -- In a frame with this odometer; after bits that bring nothing; after the bit that opens a contact.
 abbrev pub with_odometer : Tape → ℕ → Tape
@@ -37,10 +36,10 @@ opens tape ear = record { ear = ear; odometer = tape.odometer; opened = tape.odo
 -- After the bit that closes one, and its record; after a position record; after the record of a
 -- contact that the lead's end cuts.
 abbrev pub closes : Tape → Ear → Tape
-closes tape ear = record { ear = ear; odometer = tape.odometer; opened = tape.opened; last = Last.At tape.opened }
+closes tape ear = record { ear = ear; odometer = tape.odometer; opened = tape.opened; last = Some tape.opened }
 
 abbrev pub positioned : Tape → Tape
-positioned tape = record { ear = tape.ear; odometer = tape.odometer; opened = tape.opened; last = Last.At tape.odometer }
+positioned tape = record { ear = tape.ear; odometer = tape.odometer; opened = tape.opened; last = Some tape.odometer }
 
 abbrev pub cut : Tape → Tape
 cut tape = closes tape (record { history = tape.ear.history; stand = Stand.Outside })
@@ -74,11 +73,11 @@ over_bits b s t tape i (suc n) = and_then (after_step tape (hear tape.ear (bit_a
 
 -- "After each frame, if no contact is open and (no record was written yet, or the odometer is at
 -- least 10 above the last record's): a position record."
-abbrev pub ten_above : Last → ℕ → Bool
-ten_above Last.Never odometer = true
-ten_above (Last.At place) odometer = leb (place + 10) odometer
+abbrev pub ten_above : Option ℕ → ℕ → Bool
+ten_above None odometer = true
+ten_above (Some place) odometer = leb (place + 10) odometer
 
-abbrev pub due_in : Stand → Last → ℕ → Bool
+abbrev pub due_in : Stand → Option ℕ → ℕ → Bool
 due_in (Stand.Inside sound) last odometer = false
 due_in Stand.Outside last odometer = ten_above last odometer
 
@@ -132,9 +131,9 @@ cut_in (Stand.Inside sound) tape = record { tape = cut tape; records = bytes_of 
 cut_in Stand.Outside tape = silent tape
 
 -- "At the end, after 9's record: a position record if the odometer is above the last record's."
-abbrev pub is_above : Last → ℕ → Bool
-is_above Last.Never odometer = false
-is_above (Last.At place) odometer = ltb place odometer
+abbrev pub is_above : Option ℕ → ℕ → Bool
+is_above None odometer = false
+is_above (Some place) odometer = ltb place odometer
 
 unfoldable pub last_position : Tape → Taped
 last_position tape = pick (is_above tape.last tape.odometer) (position tape) (silent tape)

@@ -1,5 +1,5 @@
 // From one record to the next.
-ghost use Rattle.std.specs.Prelude.{◌≡◌, ◌≤◌, ◌<◌};
+ghost use Rattle.std.specs.Prelude.{◌≡◌, ◌≤◌, ◌<◌, Some};
 ghost use Rattle.words.specs.Answer.{pick};
 ghost use Rattle.settings.specs.At.{leaves};
 ghost use Rattle.contact.specs.Says.{says_judged};
@@ -7,12 +7,12 @@ ghost use Rattle.recorder.specs.Record.{bytes_of, blank};
 ghost use Rattle.recording.specs.Kept.{record_at};
 ghost use Rattle.recording.specs.Recording.{none_held, held_at, closes, positioned};
 ghost use Rattle.recording.specs.Asking.{go_on, used_up};
-ghost use Rattle.recording.specs.Says.{went, says_taken};
+ghost use Rattle.recording.specs.Says.{says_taken};
 
-use crate::{Came, Taken, Tape, frame, kept, marking};
+use crate::{Taken, Tape, frame, kept, marking};
 use antenna::{Ear, Until};
 use contact::Judged;
-use settings::{Asked, Held, Store};
+use settings::{Held, Store};
 
 // Nothing is held before a store was asked.
 fn none_held() -> Held
@@ -33,8 +33,8 @@ fn in_force(store: Store, odometer: u32) -> Held
 {
     let asked = settings::at(store, odometer);
     match asked {
-        Asked::InForce(held) => held,
-        Asked::Refused(_) => none_held(),
+        Ok(held) => held,
+        Err(_) => none_held(),
     }
 }
 
@@ -50,20 +50,19 @@ fn held_for(store: Store, held: Held, odometer: u32) -> Held
 
 // A record came.
 fn gave(tape: Tape, frame: usize, bit: usize, bytes: [u8; 8]) -> Taken
-    ensures { result ≡ record { tape = tape; frame = frame; bit = bit; came = Came.Record; bytes = bytes } }
+    ensures { result ≡ record { tape = tape; frame = frame; bit = bit; came = Some bytes } }
 {
     Taken {
         tape,
         frame,
         bit,
-        came: Came::Record,
-        bytes,
+        came: Some(bytes),
     }
 }
 
 // The record of a contact that closed, at the odometer at which it opened.
 fn of_contact(tape: Tape, ear: Ear, frame: usize, bit: usize, judged: Judged) -> Taken
-    ensures { result ≡ record { tape = closes tape ear; frame = frame; bit = bit; came = Came.Record; bytes = record_at tape.opened (says_judged judged) } }
+    ensures { result ≡ record { tape = closes tape ear; frame = frame; bit = bit; came = Some (record_at tape.opened (says_judged judged)) } }
 {
     let next = marking::closes(tape, ear);
     gave(next, frame, bit, kept::record_at(tape.opened, judged))
@@ -71,7 +70,7 @@ fn of_contact(tape: Tape, ear: Ear, frame: usize, bit: usize, judged: Judged) ->
 
 // The record of a position, before this frame.
 fn of_position(tape: Tape, frame: usize) -> Taken
-    ensures { result ≡ record { tape = positioned tape; frame = frame; bit = 0; came = Came.Record; bytes = bytes_of tape.odometer (blank 3) } }
+    ensures { result ≡ record { tape = positioned tape; frame = frame; bit = 0; came = Some (bytes_of tape.odometer (blank 3)) } }
 {
     let next = marking::positioned(tape);
     gave(next, frame, 0, kept::blank_at(tape.odometer, 3))
@@ -79,26 +78,26 @@ fn of_position(tape: Tape, frame: usize) -> Taken
 
 // All frames are used.
 fn nothing(tape: Tape, frame: usize, bit: usize) -> Taken
-    ensures { says_taken result ≡ went (used_up tape frame bit) }
+    ensures { says_taken result ≡ used_up tape frame bit }
 {
     Taken {
         tape,
         frame,
         bit,
-        came: Came::Nothing,
-        bytes: [0, 0, 0, 0, 0, 0, 0, 0],
+        came: None,
     }
 }
 
 // From this bit of this frame on, to the next record or the last whole frame's end.
 pub fn over(tape: Tape, store: Store, frames: &[u8], frame: usize, bit: usize) -> Taken
-    ensures { says_taken result ≡ went (go_on store frames.now tape frame bit) }
+    ensures { says_taken result ≡ go_on store frames.now tape frame bit }
 {
     let n = frames.len() / 16;
     let mut held = none_held();
     let mut here = tape;
     let mut k = frame;
     let mut i = bit;
+    // Stays as it is: a `for` is no plainer, since a turn that opens a contact stays in its frame.
     while k < n {
         let given = frame::odometer(frames, k);
         let odometer = frame::accepted_after(here.odometer, given);

@@ -2,11 +2,9 @@
 ghost use Rattle.std.specs.Prelude.{◌≡◌, ◌<◌};
 ghost use Rattle.contact.specs.Says.{says_judged};
 ghost use Rattle.recorder.specs.Record.{bytes_of, blank, record_of_meant};
-ghost use Rattle.recorder.specs.Says.{says_went};
-ghost use Rattle.recording.specs.Kept.{is_made, or_unreadable, record_at};
+ghost use Rattle.recording.specs.Kept.{or_unreadable, record_at};
 
 use contact::Judged;
-use recorder::Went;
 
 // A record without words.
 pub fn blank_at(odometer: u32, kind: u8) -> [u8; 8]
@@ -19,29 +17,14 @@ pub fn blank_at(odometer: u32, kind: u8) -> [u8; 8]
     [a, b, c, d, kind, 0, 0, 0]
 }
 
-fn is_made(went: Went) -> bool
-    ensures { result ≡ is_made (says_went went) }
-{
-    match went {
-        Went::Made => true,
-        Went::TooLarge => false,
-        Went::Fifteen => false,
-        Went::NotSeven => false,
-        Went::Beyond => false,
-        Went::TooHigh => false,
-    }
-}
-
 // A reading's record, with its words.
 fn information(odometer: u32, judged: Judged) -> [u8; 8]
     ensures { result ≡ or_unreadable odometer (record_of_meant odometer judged) }
 {
-    let recorded = recorder::record_of(odometer, judged);
-    let went = recorded.went;
-    if is_made(went) {
-        return recorded.bytes;
+    match recorder::record_of(odometer, judged) {
+        Ok(bytes) => bytes,
+        Err(_) => blank_at(odometer, 2),
     }
-    blank_at(odometer, 2)
 }
 
 // The record of a contact that closed.

@@ -12,7 +12,7 @@
 ghost use Rattle.std.specs.Prelude.{◌≡◌};
 ghost use Rattle.recording.specs.Recording.{fresh};
 ghost use Rattle.recording.specs.Asking.{go_on, finish};
-ghost use Rattle.recording.specs.Says.{went, says_taken, closing, says_ended};
+ghost use Rattle.recording.specs.Says.{says_taken, says_ended};
 
 mod frame;
 mod going;
@@ -22,13 +22,6 @@ mod marking;
 use antenna::{Ear, Stand};
 use settings::Store;
 
-// The last record's odometer, if there is a record.
-#[derive(Clone, Copy)]
-pub enum Last {
-    Never,
-    At(u32),
-}
-
 // A tape: the ear at the line, the odometer in force, that of the frame in which the open contact
 // opened, and the last record's.
 #[derive(Clone, Copy)]
@@ -36,25 +29,17 @@ pub struct Tape {
     pub ear: Ear,
     pub odometer: u32,
     pub opened: u32,
-    pub last: Last,
-}
-
-// Whether a record came.
-#[derive(Clone, Copy)]
-pub enum Came {
-    Record,
-    Nothing,
+    pub last: Option<u32>,
 }
 
 // What going on answers: the tape after it, the frame and the bit of its line to go on from, and
-// the record, if one came; if none did, all frames are used and the eight bytes are zero.
+// the record, if one came; if none did, all frames are used.
 #[derive(Clone, Copy)]
 pub struct Taken {
     pub tape: Tape,
     pub frame: usize,
     pub bit: usize,
-    pub came: Came,
-    pub bytes: [u8; 8],
+    pub came: Option<[u8; 8]>,
 }
 
 // What the end answers: the tape after it, and the record, if one came; if none did, there is no
@@ -62,8 +47,7 @@ pub struct Taken {
 #[derive(Clone, Copy)]
 pub struct Ended {
     pub tape: Tape,
-    pub came: Came,
-    pub bytes: [u8; 8],
+    pub came: Option<[u8; 8]>,
 }
 
 // A tape at the lead's beginning.
@@ -74,20 +58,20 @@ pub fn fresh() -> Tape
         ear: antenna::fresh(),
         odometer: 0,
         opened: 0,
-        last: Last::Never,
+        last: None,
     }
 }
 
 // From this bit of this frame on, to the next record or the last whole frame's end.
 pub fn go_on(tape: Tape, store: Store, frames: &[u8], frame: usize, bit: usize) -> Taken
-    ensures { says_taken result ≡ went (go_on store frames.now tape frame bit) }
+    ensures { says_taken result ≡ go_on store frames.now tape frame bit }
 {
     going::over(tape, store, frames, frame, bit)
 }
 
 // At the lead's end: the record of a contact that is cut by it, then that of the last position.
 pub fn end(tape: Tape) -> Ended
-    ensures { says_ended result ≡ closing (finish tape) }
+    ensures { says_ended result ≡ finish tape }
 {
     let ear = tape.ear;
     let stand = ear.stand;
@@ -95,22 +79,16 @@ pub fn end(tape: Tape) -> Ended
     match stand {
         Stand::Inside(_) => Ended {
             tape: marking::cut(tape),
-            came: Came::Record,
-            bytes: kept::blank_at(tape.opened, 2),
+            came: Some(kept::blank_at(tape.opened, 2)),
         },
         Stand::Outside => {
             if marking::is_above(last, tape.odometer) {
                 Ended {
                     tape: marking::positioned(tape),
-                    came: Came::Record,
-                    bytes: kept::blank_at(tape.odometer, 3),
+                    came: Some(kept::blank_at(tape.odometer, 3)),
                 }
             } else {
-                Ended {
-                    tape,
-                    came: Came::Nothing,
-                    bytes: [0, 0, 0, 0, 0, 0, 0, 0],
-                }
+                Ended { tape, came: None }
             }
         }
     }

@@ -3,7 +3,7 @@ ghost use Rattle.std.specs.Prelude.{◌≡◌};
 ghost use Rattle.recording.specs.Recording.{with_odometer, hears_on, opens, closes, positioned, cut, is_due, is_above};
 ghost use Rattle.recording.specs.declared.Tape.{Tape};
 
-use crate::{Last, Tape};
+use crate::Tape;
 use antenna::{Ear, Stand};
 
 // In a frame with this odometer.
@@ -54,7 +54,7 @@ pub fn closes(tape: Tape, ear: Ear) -> Tape
         ear,
         odometer: tape.odometer,
         opened: tape.opened,
-        last: Last::At(tape.opened),
+        last: Some(tape.opened),
     }
 }
 
@@ -67,7 +67,7 @@ pub fn positioned(tape: Tape) -> Tape
         ear,
         odometer: tape.odometer,
         opened: tape.opened,
-        last: Last::At(tape.odometer),
+        last: Some(tape.odometer),
     }
 }
 
@@ -93,18 +93,18 @@ pub fn is_due(tape: Tape) -> bool
     match stand {
         Stand::Inside(_) => false,
         Stand::Outside => match last {
-            Last::Never => true,
-            Last::At(place) => (place as u64) + 10 <= (tape.odometer as u64),
+            None => true,
+            Some(place) => (place as u64) + 10 <= (tape.odometer as u64),
         },
     }
 }
 
 // Whether the odometer is above the last record's.
-pub fn is_above(last: Last, odometer: u32) -> bool
+pub fn is_above(last: Option<u32>, odometer: u32) -> bool
     ensures { result ≡ is_above last odometer }
 {
     match last {
-        Last::Never => false,
-        Last::At(place) => place < odometer,
+        None => false,
+        Some(place) => place < odometer,
     }
 }

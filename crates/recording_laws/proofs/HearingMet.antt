@@ -19,7 +19,7 @@ use Rattle.contact.specs.Contacts.{contact, quiet, contacts, contacts_from, next
 use Rattle.contact.specs.Judge as judging
 use Rattle.contact.specs.Judge.{marker, ones_at_end, all_zero, is_marker, judgement}
 use Rattle.contact.specs.declared.Search.{Search}
-use Rattle.contact.specs.declared.Next.{Next}
+use Rattle.std.specs.Prelude.{Some, None, Ok}
 use Rattle.contact.specs.declared.Judged.{Judged}
 use Rattle.contact.proofs.Law.{further, ends as at_the_end}
 use Rattle.contact_laws.specs.Calls.{Listened, JudgeContact}
@@ -112,8 +112,8 @@ listened_met =
       search = record { next = 0; left = 88; history = 65535 };
       begins = record { κs = ([], tt); given = (lent, (0, (88, tt))); left = (lent, (0, (88, tt))); buffer = refl; first = refl; bits = refl; kept = refl };
       comes =
-          further (record { κs = ([], tt); given = (record { next = 0; left = 88; history = 65535 }, (lent, tt)); answer = Next.Contact 7 64 after_it; left = (record { next = 0; left = 88; history = 65535 }, (lent, tt)); search = refl; buffer = refl; kept = refl; says = refl })
-          (at_the_end (record { κs = ([], tt); given = (after_it, (lent, tt)); answer = Next.NoFurther; left = (after_it, (lent, tt)); search = refl; buffer = refl; kept = refl; says = refl }));
+          further (record { κs = ([], tt); given = (record { next = 0; left = 88; history = 65535 }, (lent, tt)); answer = Ok (Some (record { start = 7; length = 64; then = after_it })); left = (record { next = 0; left = 88; history = 65535 }, (lent, tt)); search = refl; buffer = refl; kept = refl; says = refl })
+          (at_the_end (record { κs = ([], tt); given = (after_it, (lent, tt)); answer = Ok None; left = (after_it, (lent, tt)); search = refl; buffer = refl; kept = refl; says = refl }));
     }
 
 judge_met : JudgeContact b 7 64 0x72 0x0d Judged.Marker

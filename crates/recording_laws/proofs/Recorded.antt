@@ -9,12 +9,12 @@ use lib.ListN.{length}
 use Rattle.settings.specs.declared.Store.{Store}
 use Rattle.antenna.specs.Hearing as hearing
 use Rattle.recording.specs.declared.Tape.{Tape}
-use Rattle.recording.specs.declared.Came.{Came}
+use Rattle.std.specs.Prelude.{Option}
 use Rattle.recording.specs.declared.Taken.{Taken}
 use Rattle.recording.specs.declared.Ended.{Ended}
 use Rattle.recording.specs.Recording.{fresh, Taped, silent, and_then, over_frames, frames_of, over_lead, last_position, the_end_meant, recorded}
 use Rattle.recording.specs.Asking.{go_on, finish}
-use Rattle.recording.specs.Says.{Went, says_came, went, Closing, end_came}
+use Rattle.recording.specs.Says.{says_came, end_came}
 use Rattle.recording.specs.Laws.{Asked, over, more, then_ended}
 use Rattle.recording.proofs.Asking.{asked_all, end_asked}
 use Rattle.recording.proofs.Pieces.{any_pieces}
@@ -25,15 +25,15 @@ use Rattle.recording_laws.specs.Recorded.{Through, came, used, ThroughAll, none,
 
 -- What an answer that is allowed says.
 goes : (tape : Tape) (store : Store) (frames : List ℕ) (k i : ℕ) (r : Taken) → GoOn tape store frames k i r
-    → go_on store frames tape k i ≡ says_came r.came r.tape r.frame r.bit r.bytes
+    → go_on store frames tape k i ≡ says_came r.came r.tape r.frame r.bit
 goes tape store frames k i r call =
-    sym (ap (λ (w : Went). w.going) (call.4 ∙ ap (λ (v : List ℕ). went (go_on store v tape k i)) call.3))
+    sym (call.4 ∙ ap (λ (v : List ℕ). go_on store v tape k i) call.3)
 
 asked : {store : Store} {frames : List ℕ} {tape last : Tape} {k i : ℕ} {rs : List (List ℕ)} → Through store frames tape k i rs last → Asked store frames tape k i rs last
 asked {store} {frames} {tape} {last} {k} {i} (came r call is rest) =
-    more (goes tape store frames k i r call ∙ ap (λ (c : Came). says_came c r.tape r.frame r.bit r.bytes) is) (asked rest)
+    more (goes tape store frames k i r call ∙ ap (λ (c : Option (List ℕ)). says_came c r.tape r.frame r.bit) is) (asked rest)
 asked {store} {frames} {tape} {last} {k} {i} (used r call is) =
-    over (goes tape store frames k i r call ∙ ap (λ (c : Came). says_came c r.tape r.frame r.bit r.bytes) is)
+    over (goes tape store frames k i r call ∙ ap (λ (c : Option (List ℕ)). says_came c r.tape r.frame r.bit) is)
 
 a_piece : {store : Store} {frames : List ℕ} {tape last : Tape} {rs : List (List ℕ)} → Through store frames tape 0 0 rs last
     → over_lead store frames tape ≡ record { tape = last; records = rs }
@@ -68,16 +68,16 @@ all_pieces {store} {tape} {last} {bs = b ∷ c ∷ cs} whole (piece {next = next
 
 -- ---- the end
 
-ends_so : (tape : Tape) (r : Ended) → EndOf tape r → finish tape ≡ end_came r.came r.tape r.bytes
-ends_so tape r call = sym (ap (λ (c : Closing). c.ending) call.1)
+ends_so : (tape : Tape) (r : Ended) → EndOf tape r → finish tape ≡ end_came r.came r.tape
+ends_so tape r call = sym call.1
 
 to_the_end : {tape : Tape} {qs : List (List ℕ)} → ToTheEnd tape qs → (the_end_meant tape).records ≡ qs
-to_the_end {tape} (came_last r call is rest) =
+to_the_end {tape} (came_last {bytes = bytes} r call is rest) =
     ap (λ (x : Taped). x.records)
-    (end_asked tape ∙ ap then_ended (ends_so tape r call ∙ ap (λ (c : Came). end_came c r.tape r.bytes) is))
-    ∙ ap (λ (l : List (List ℕ)). r.bytes ∷ l) (to_the_end rest)
+    (end_asked tape ∙ ap then_ended (ends_so tape r call ∙ ap (λ (c : Option (List ℕ)). end_came c r.tape) is))
+    ∙ ap (λ (l : List (List ℕ)). bytes ∷ l) (to_the_end rest)
 to_the_end {tape} (no_more r call is) =
-    ap (λ (x : Taped). x.records) (end_asked tape ∙ ap then_ended (ends_so tape r call ∙ ap (λ (c : Came). end_came c r.tape r.bytes) is))
+    ap (λ (x : Taped). x.records) (end_asked tape ∙ ap then_ended (ends_so tape r call ∙ ap (λ (c : Option (List ℕ)). end_came c r.tape) is))
 
 -- ---- the lead
 

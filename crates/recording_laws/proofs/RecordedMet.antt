@@ -22,9 +22,8 @@ use Rattle.antenna.specs.Places.{more, places_after}
 use Rattle.antenna.specs.Sound.{begun, with_bit, marker_or, judged}
 use Rattle.antenna.specs.Hearing as hearing
 use Rattle.antenna.specs.Hearing.{hear}
-use Rattle.recording.specs.declared.Last.{Last}
+use Rattle.std.specs.Prelude.{Option, Some, None}
 use Rattle.recording.specs.declared.Tape.{Tape}
-use Rattle.recording.specs.declared.Came.{Came}
 use Rattle.recording.specs.declared.Taken.{Taken}
 use Rattle.recording.specs.Frame.{line_of, odometer_of, accepted_after}
 use Rattle.recording.specs.Recording.{fresh, held_at}
@@ -43,23 +42,23 @@ abbrev frame : ℕ → ℕ → List ℕ
 frame odometer a = 0 ∷ 0 ∷ 0 ∷ odometer ∷ a ∷ a ∷ a ∷ a ∷ a ∷ a ∷ a ∷ a ∷ a ∷ a ∷ a ∷ a ∷ []
 
 -- A tape with these fields.
-abbrev pub tape : Ear → ℕ → ℕ → Last → Tape
+abbrev pub tape : Ear → ℕ → ℕ → Option ℕ → Tape
 tape ear odometer opened last = record { ear = ear; odometer = odometer; opened = opened; last = last }
 
 -- The fresh tape.
 abbrev pub at_first : Tape
-at_first = tape (outside_it 65535) 0 0 Last.Never
+at_first = tape (outside_it 65535) 0 0 None
 
 -- Inside the contact, which has the bits of the first frame from its eighth on.
 abbrev between_them : Tape
 between_them =
-    tape (record { history = 0; stand = Stand.Inside (record { s = 0x72; t = 0x0d; length = 89; forty = 0; ones = 0; plain = true; places = Places.NoPlace }) }) 5 5 Last.Never
+    tape (record { history = 0; stand = Stand.Inside (record { s = 0x72; t = 0x0d; length = 89; forty = 0; ones = 0; plain = true; places = Places.NoPlace }) }) 5 5 None
 
 abbrev closed : Tape
-closed = tape (outside_it 4095) 30 5 (Last.At 5)
+closed = tape (outside_it 4095) 30 5 (Some 5)
 
 abbrev positioned : Tape
-positioned = tape (outside_it 65535) 30 5 (Last.At 30)
+positioned = tape (outside_it 65535) 30 5 (Some 30)
 
 abbrev of_marker : List ℕ
 of_marker = 0 ∷ 0 ∷ 0 ∷ 5 ∷ 1 ∷ 0 ∷ 0 ∷ 0 ∷ []
@@ -67,36 +66,32 @@ of_marker = 0 ∷ 0 ∷ 0 ∷ 5 ∷ 1 ∷ 0 ∷ 0 ∷ 0 ∷ []
 abbrev of_position : List ℕ
 of_position = 0 ∷ 0 ∷ 0 ∷ 30 ∷ 3 ∷ 0 ∷ 0 ∷ 0 ∷ []
 
--- The bytes where no record comes.
-abbrev pub no_bytes : List ℕ
-no_bytes = 0 ∷ 0 ∷ 0 ∷ 0 ∷ 0 ∷ 0 ∷ 0 ∷ 0 ∷ []
-
 -- An answer with these fields.
-abbrev pub answer : Tape → ℕ → ℕ → Came → List ℕ → Taken
-answer next k i how bytes = record { tape = next; frame = k; bit = i; came = how; bytes = bytes }
+abbrev pub answer : Tape → ℕ → ℕ → Option (List ℕ) → Taken
+answer next k i what = record { tape = next; frame = k; bit = i; came = what }
 
 -- A recording begins with it.
 pub begins : FreshTape at_first
 unfolding fresh hearing.fresh
 begins = (tt, refl)
 
-first_frame : GoOn at_first store (frame 5 0) 0 0 (answer between_them 1 0 Came.Nothing no_bytes)
+first_frame : GoOn at_first store (frame 5 0) 0 0 (answer between_them 1 0 None)
 unfolding go_on first_of first_in held_at hold asked stores.judged in_order_meant all_follow versions_of opened begin no_store_meant settings_of follows good_pair is_good differing held_from at.held_at hear history.after zeroes_of zeroes opens closes line_of odometer_of accepted_after begun with_bit more places_after marker_or judged are_syncs
 first_frame = (([], tt), lent (frame 5 0), (at_first, (store, (lent (frame 5 0), (0, (0, tt))))), refl, refl)
 
-closing : GoOn between_them store (frame 30 255) 0 0 (answer closed 0 12 Came.Record of_marker)
+closing : GoOn between_them store (frame 30 255) 0 0 (answer closed 0 12 (Some of_marker))
 unfolding go_on first_of first_in held_at hold asked stores.judged in_order_meant all_follow versions_of opened begin no_store_meant settings_of follows good_pair is_good differing held_from at.held_at hear history.after zeroes_of zeroes opens closes line_of odometer_of accepted_after begun with_bit more places_after marker_or judged are_syncs
 closing = (([], tt), lent (frame 30 255), (between_them, (store, (lent (frame 30 255), (0, (0, tt))))), refl, refl)
 
-position : GoOn closed store (frame 30 255) 0 12 (answer positioned 1 0 Came.Record of_position)
+position : GoOn closed store (frame 30 255) 0 12 (answer positioned 1 0 (Some of_position))
 unfolding go_on first_of first_in held_at hold asked stores.judged in_order_meant all_follow versions_of opened begin no_store_meant settings_of follows good_pair is_good differing held_from at.held_at hear history.after zeroes_of zeroes opens closes line_of odometer_of accepted_after
 position = (([], tt), lent (frame 30 255), (closed, (store, (lent (frame 30 255), (0, (12, tt))))), refl, refl)
 
-used_up : GoOn positioned store (frame 30 255) 1 0 (answer positioned 1 0 Came.Nothing no_bytes)
+used_up : GoOn positioned store (frame 30 255) 1 0 (answer positioned 1 0 None)
 unfolding go_on first_of
 used_up = (([], tt), lent (frame 30 255), (positioned, (store, (lent (frame 30 255), (1, (0, tt))))), refl, refl)
 
-no_further : EndOf positioned (record { tape = positioned; came = Came.Nothing; bytes = no_bytes })
+no_further : EndOf positioned (record { tape = positioned; came = None })
 unfolding finish
 no_further = ((positioned, tt), refl)
 

@@ -7,7 +7,6 @@ use mathlib.Core.Bool.{true, false}
 use mathlib.Core.List.{List, [], ◌∷◌, ◌++◌}
 use native.Mathlib.Omega.{arith}
 use borrow.Author.Tests.{le-ltb}
-use Rattle.words.specs.Answer.{then}
 use Rattle.telegram.specs.Sync.{is_good}
 use Rattle.balise_line.specs.Line.{OneBalise, Proper}
 use Rattle.settings.specs.declared.Store.{Store}

@@ -1,6 +1,7 @@
 -- Each contact's record is the one that `record_of` makes of what was judged, or an unreadable one,
 -- and so it says the same balise.
 -- Assumes nothing.
+use Rattle.std.specs.Prelude.{Result, Ok}
 use Prim.Native.Nat.{ℕ, ◌-◌, ◌/◌, ◌≤◌, ◌<◌, ◌^◌}
 use mathlib.Core.Path.{◌≡◌, refl, sym, ap, subst, ◌∙◌}
 use mathlib.Core.Bool.{true, false}
@@ -26,15 +27,16 @@ use Rattle.contact_laws.specs.Calls.{Listened, JudgeContact}
 use Rattle.antenna.specs.declared.Stand.{Stand}
 use Rattle.antenna.specs.Hearing as hearing
 use Rattle.antenna.specs.Line.{Told, told, after, judged_all, cut, is_inside}
-use Rattle.recorder.specs.Record.{content_of, bytes_of, blank, at_odometer, record_of_meant, recording}
-use Rattle.recorder.specs.declared.Went.{Went}
-use Rattle.recorder.specs.declared.Recorded.{Recorded}
+use Rattle.recorder.specs.Record.{content_of, bytes_of, blank, at_odometer, record_of_meant}
+use Rattle.std.specs.Prelude.{Result, Ok}
+use Rattle.recorder.specs.declared.RecordRefused.{RecordRefused}
 use Rattle.recorder.proofs.Received.{as_received}
 use Rattle.group.specs.declared.Heard.{Heard}
 use Rattle.ride.specs.Record.{odometer_of, passed_of, check_record}
 use Rattle.ride.specs.declared.Ride.{Ride}
 use Rattle.ride.specs.declared.Passed.{Passed}
 use Rattle.ride.specs.declared.Checked.{Checked}
+use Rattle.ride.specs.declared.Wrong.{Wrong}
 use Rattle.ride.proofs.Determined.{checked_of, checked_back}
 use Rattle.chain_laws.specs.Same.{RecordOf, CheckRecord, Same}
 use Rattle.chain_laws.proofs.Same.{says_the_same}
@@ -43,7 +45,7 @@ use Rattle.recording.specs.Kept.{or_unreadable, record_at}
 use Rattle.recording.specs.Rising as rising
 use Rattle.recording.specs.Contacts.{line_in, in_force, s_in, t_in, record_for, records_for, cut_at, without_positions, bits_of}
 use Rattle.recording.specs.Document.{whole_line}
-use Rattle.recording.proofs.Accepting.{Made, blank_made, accepts}
+use Rattle.recording.proofs.Accepting.{blank_made, accepts}
 use Rattle.recording.proofs.Contacts.{one_each}
 use Rattle.recording.proofs.Document.{the_contacts, never_high}
 use Rattle.recording.proofs.Rising.{none_refused}
@@ -54,7 +56,7 @@ use Rattle.recording_laws.proofs.Hearing.{is_taken, contacts_are}
 -- ---- accepted
 
 -- What a call of `check_record` answers for a record that is accepted.
-taken_up : (last : ℕ) (r : List ℕ) (ride : Ride) (k : Checked) → rising.Accepted last r → ride.odometer ≡ last → CheckRecord ride r k → k ≡ Checked.Accepted (odometer_of r) (passed_of r)
+taken_up : (last : ℕ) (r : List ℕ) (ride : Ride) (k : Result Checked Wrong) → rising.Accepted last r → ride.odometer ≡ last → CheckRecord ride r k → k ≡ Ok (record { odometer = odometer_of r; passed = passed_of r })
 taken_up last r ride k good is call =
     sym (checked_back k) ∙ ap checked_of (call.1 ∙ ap (λ (n : ℕ). check_record n r) is ∙ good.accepted)
 
@@ -69,16 +71,16 @@ unfolding passed_of
 unreadable odometer high ride k low call =
     let m = (blank_made odometer).1 in
     let is = taken_up ride.odometer (bytes_of odometer (blank 2)) ride k (accepts ride.odometer odometer (bytes_of odometer (blank 2)) m low high) refl call in
-    (Heard.Unreadable, is ∙ ap (λ (n : ℕ). Checked.Accepted n (Passed.Balise Heard.Unreadable)) m.at, refl)
+    (Heard.Unreadable, is ∙ ap (λ (n : ℕ). Ok (record { odometer = n; passed = Passed.Balise Heard.Unreadable })) m.at, refl)
 
 module _ (b : List ℕ) (start len s t odometer : ℕ) (high : odometer ≤ 4000000000) where
   -- Where `record_of` makes a record, it is the one recorded, and it says the balise judged.
   made : (j : Judged) (r bytes : List ℕ) → JudgeContact b start len s t j → (j ≡ Judged.NotSeven → ⊥) → (j ≡ Judged.Beyond → ⊥)
       → record_of_meant odometer j ≡ gives bytes → r ≡ bytes → SaysAt odometer r (Same b j)
   made j r bytes call good short is same ride k low asked =
-      let q : Recorded = record { bytes = bytes; went = Went.Made } in
-      let made_so : RecordOf odometer j q = ((odometer, (j, tt)), sym (ap recording is)) in
-      says_the_same.accepted b start len s t odometer j q ride k call made_so refl low (subst (λ (v : List ℕ). CheckRecord ride v k) same asked)
+      let q : Result (List ℕ) RecordRefused = Ok bytes in
+      let made_so : RecordOf odometer j q = ((odometer, (j, tt)), sym is) in
+      says_the_same.accepted b start len s t odometer j q bytes ride k call made_so refl low (subst (λ (v : List ℕ). CheckRecord ride v k) same asked)
 
   reads : (m : Telegram) (first count : ℕ) (r : List ℕ) → JudgeContact b start len s t (Judged.Read m first count)
       → r ≡ record_at odometer (says_judged (Judged.Read m first count)) → SaysAt odometer r (SaysIt b (Judged.Read m first count))

@@ -1,10 +1,9 @@
 -- From a lead to its records (docs/LEAD.md): what is recorded of a lead that comes in pieces is
 -- what is recorded of the whole.
 -- Assumes nothing.
-use Rattle.std.specs.Prelude.{ℕ, ◌%◌, ◌<◌, ◌≡◌, List, [], ◌∷◌, ◌++◌, length}
+use Rattle.std.specs.Prelude.{ℕ, ◌%◌, ◌<◌, ◌≡◌, List, [], ◌∷◌, ◌++◌, length, Some, None}
 use Rattle.settings.specs.declared.Store.{Store}
 use Rattle.recording.specs.declared.Tape.{Tape}
-use Rattle.recording.specs.declared.Came.{Came}
 use Rattle.recording.specs.declared.Taken.{Taken}
 use Rattle.recording.specs.declared.Ended.{Ended}
 use Rattle.recording.specs.Recording.{recorded}
@@ -14,9 +13,9 @@ use Rattle.recording_laws.specs.Calls.{FreshTape, GoOn, EndOf}
 -- until its frames are used; every answer is one that the contract allows. From a tape, a frame and
 -- a bit: the records that came, and the tape at the end.
 pub data Through (store : Store) (frames : List ℕ) : Tape → ℕ → ℕ → List (List ℕ) → Tape → Type 0 where
-  came : {tape last : Tape} {k i : ℕ} {rest : List (List ℕ)} (r : Taken)
-      → GoOn tape store frames k i r → r.came ≡ Came.Record → Through store frames r.tape r.frame r.bit rest last → Through store frames tape k i (r.bytes ∷ rest) last
-  used : {tape : Tape} {k i : ℕ} (r : Taken) → GoOn tape store frames k i r → r.came ≡ Came.Nothing → Through store frames tape k i [] r.tape
+  came : {tape last : Tape} {k i : ℕ} {rest : List (List ℕ)} {bytes : List ℕ} (r : Taken)
+      → GoOn tape store frames k i r → r.came ≡ Some bytes → Through store frames r.tape r.frame r.bit rest last → Through store frames tape k i (bytes ∷ rest) last
+  used : {tape : Tape} {k i : ℕ} (r : Taken) → GoOn tape store frames k i r → r.came ≡ None → Through store frames tape k i [] r.tape
 
 -- Piece after piece.
 pub data ThroughAll (store : Store) : Tape → List (List ℕ) → List (List ℕ) → Tape → Type 0 where
@@ -26,8 +25,8 @@ pub data ThroughAll (store : Store) : Tape → List (List ℕ) → List (List �
 
 -- `end` is asked until no further record comes.
 pub data ToTheEnd : Tape → List (List ℕ) → Type 0 where
-  came : {tape : Tape} {rest : List (List ℕ)} (r : Ended) → EndOf tape r → r.came ≡ Came.Record → ToTheEnd r.tape rest → ToTheEnd tape (r.bytes ∷ rest)
-  no_more : {tape : Tape} (r : Ended) → EndOf tape r → r.came ≡ Came.Nothing → ToTheEnd tape []
+  came : {tape : Tape} {rest : List (List ℕ)} {bytes : List ℕ} (r : Ended) → EndOf tape r → r.came ≡ Some bytes → ToTheEnd r.tape rest → ToTheEnd tape (bytes ∷ rest)
+  no_more : {tape : Tape} (r : Ended) → EndOf tape r → r.came ≡ None → ToTheEnd tape []
 
 -- The pieces of a lead, byte after byte. Every one but the last ends with a whole frame.
 abbrev pub joined : List (List ℕ) → List ℕ

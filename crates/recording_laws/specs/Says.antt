@@ -2,7 +2,7 @@
 -- of a recorded trace is ever refused"; each contact's record says the balise judged, at the
 -- odometer of the frame in which its first bit lies.
 -- Assumes nothing.
-use Rattle.std.specs.Prelude.{ℕ, ◌/◌, ◌≤◌, ◌≡◌, List, [], ◌∷◌}
+use Rattle.std.specs.Prelude.{ℕ, ◌/◌, ◌≤◌, ◌≡◌, List, [], ◌∷◌, Result, Ok}
 use Rattle.words.specs.Answer.{gives}
 use Rattle.settings.specs.Versions.{Kept}
 use Rattle.settings.specs.Store.{judged}
@@ -17,6 +17,7 @@ use Rattle.ride.specs.Record.{odometer_of, passed_of}
 use Rattle.ride.specs.declared.Ride.{Ride}
 use Rattle.ride.specs.declared.Passed.{Passed}
 use Rattle.ride.specs.declared.Checked.{Checked}
+use Rattle.ride.specs.declared.Wrong.{Wrong}
 use Rattle.chain_laws.specs.Same.{CheckRecord, Same}
 use Rattle.recording.specs.Recording.{recorded}
 use Rattle.recording.specs.Contacts.{in_force, s_in, t_in, without_positions, bits_of}
@@ -28,7 +29,7 @@ use Rattle.recording_laws.specs.Calls.{JudgeUnder}
 abbrev pub AllAccepted : ℕ → List (List ℕ) → Type 0
 AllAccepted last [] = Unit
 AllAccepted last (r ∷ rs) =
-    ((ride : Ride) (k : Checked) → ride.odometer ≡ last → CheckRecord ride r k → k ≡ Checked.Accepted (odometer_of r) (passed_of r))
+    ((ride : Ride) (k : Result Checked Wrong) → ride.odometer ≡ last → CheckRecord ride r k → k ≡ Ok (record { odometer = odometer_of r; passed = passed_of r }))
     × (last ≤ odometer_of r) × AllAccepted (odometer_of r) rs
 
 -- What the record of a contact says, where j was judged of it: the balise judged (`Same` of
@@ -44,7 +45,7 @@ SaysIt b Judged.Beyond h = h ≡ Heard.Unreadable
 
 -- The record r is accepted after any odometer not above this one, and says this of a balise.
 abbrev pub SaysAt : ℕ → List ℕ → (Heard → Type 0) → Type 0
-SaysAt odometer r It = (ride : Ride) (k : Checked) → ride.odometer ≤ odometer → CheckRecord ride r k → (h : Heard) × (k ≡ Checked.Accepted odometer (Passed.Balise h)) × It h
+SaysAt odometer r It = (ride : Ride) (k : Result Checked Wrong) → ride.odometer ≤ odometer → CheckRecord ride r k → (h : Heard) × (k ≡ Ok (record { odometer = odometer; passed = Passed.Balise h })) × It h
 
 -- The records rs are one for each contact of w, in order; and where the lead ends inside a contact
 -- (9), one more, which says unreadable.

@@ -5,21 +5,21 @@ use mathlib.Core.List.{List, [], ◌∷◌, ◌++◌}
 use Prim.Native.Nat.{ℕ}
 use Rattle.text.specs.Text.{codes, digits, decimal}
 use Rattle.recording.specs.Frame.{odometer_of}
-use Rattle.recording_text.specs.declared.First.{First}
+use Rattle.std.specs.Prelude.{Some, None}
 use Rattle.recording_text.specs.Counts.{more, judge_frame, no_frames, over_frames, count_frames, no_records, count_record, count_records}
 use Rattle.refusals.specs.Words.{table, worded, refused}
 use Rattle.recording_text.specs.Lines.{refused_line, first_line, where_any, sum_line, end_lines}
 
-pub first_line_law : (first_line First.NotYet (First.Frame 12 17) ≡ codes "record: frame 12 refused 17: odometer below the last accepted one\n") × (first_line (First.Frame 12 17) (First.Frame 12 17) ≡ [])
+pub first_line_law : (first_line None (Some (record { frame = 12; number = 17 })) ≡ codes "record: frame 12 refused 17: odometer below the last accepted one\n") × (first_line (Some (record { frame = 12; number = 17 })) (Some (record { frame = 12; number = 17 })) ≡ [])
 unfolding first_line refused_line refused worded table decimal digits
 first_line_law = (refl, refl)
 
-pub the_end : end_lines (record { frames = 5200; refused = 3; first = First.Frame 12 17; odometer = 0 }) (record { contacts = 12; read = 10; markers = 1; unreadable = 1; records = 530 }) 5
+pub the_end : end_lines (record { frames = 5200; refused = 3; first = Some (record { frame = 12; number = 17 }); odometer = 0 }) (record { contacts = 12; read = 10; markers = 1; unreadable = 1; records = 530 }) 5
     ≡ codes "record: frames refused 3\nrecord: bytes after the last frame 5\nrecord: frames 5200, contacts 12, read 10, markers 1, unreadable 1, records 530\n"
 unfolding end_lines where_any sum_line decimal digits
 the_end = refl
 
-pub nothing_more : end_lines (record { frames = 0; refused = 0; first = First.NotYet; odometer = 0 }) (record { contacts = 0; read = 0; markers = 0; unreadable = 0; records = 0 }) 0
+pub nothing_more : end_lines (record { frames = 0; refused = 0; first = None; odometer = 0 }) (record { contacts = 0; read = 0; markers = 0; unreadable = 0; records = 0 }) 0
     ≡ codes "record: frames 0, contacts 0, read 0, markers 0, unreadable 0, records 0\n"
 unfolding end_lines where_any sum_line decimal digits
 nothing_more = refl
@@ -30,7 +30,7 @@ frame a b c d = a ∷ b ∷ c ∷ d ∷ 255 ∷ 255 ∷ 255 ∷ 255 ∷ 255 ∷ 
 
 -- At 1,000, then above 4,000,000,000, then below 1,000: the first is refused with 18, and the last
 -- accepted odometer stays.
-pub two_refused : count_frames no_frames (frame 0 0 3 232 ++ frame 255 0 0 0 ++ frame 0 0 3 231) ≡ record { frames = 3; refused = 2; first = First.Frame 2 18; odometer = 1000 }
+pub two_refused : count_frames no_frames (frame 0 0 3 232 ++ frame 255 0 0 0 ++ frame 0 0 3 231) ≡ record { frames = 3; refused = 2; first = Some (record { frame = 2; number = 18 }); odometer = 1000 }
 unfolding count_frames over_frames no_frames judge_frame odometer_of more
 two_refused = refl
 

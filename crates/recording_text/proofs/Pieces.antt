@@ -14,7 +14,8 @@ use Rattle.text.proofs.Decimal.{decimal_length}
 use Rattle.text.proofs.Standing.{numbered}
 use Rattle.refusals.specs.Words.{refused}
 use Rattle.refusals.proofs.Lengths.{refused_length as words_length}
-use Rattle.recording_text.specs.declared.First.{First}
+use Rattle.std.specs.Prelude.{Option, Some, None}
+use Rattle.recording_text.specs.declared.RefusedFrame.{RefusedFrame}
 use Rattle.recording_text.specs.declared.Frames.{Frames}
 use Rattle.recording_text.specs.declared.Records.{Records}
 use Rattle.recording_text.specs.Lines.{refused_line, first_line, where_any, sum_line, end_lines}
@@ -24,8 +25,8 @@ unfolding refused_line
 refused_is frame number = simp append_assoc
 
 -- The first refused frame came just now.
-pub first_is : {before after : First} {frame number : ℕ} → before ≡ First.NotYet → after ≡ First.Frame frame number
-    → refused_line frame number ≡ first_line before after
+pub first_is : {before after : Option RefusedFrame} {first : RefusedFrame} → before ≡ None → after ≡ Some first
+    → refused_line first.frame first.number ≡ first_line before after
 unfolding first_line
 first_is e f = rw (e, f) refl
 
@@ -60,11 +61,11 @@ refused_length : (frame number : ℕ) → length (refused_line frame number) ≤
 unfolding refused_line
 refused_length frame number = simp length-append (omega (arith, decimal_length frame, words_length number))
 
-pub first_length : (before after : First) → length (first_line before after) ≤ 128
+pub first_length : (before after : Option RefusedFrame) → length (first_line before after) ≤ 128
 unfolding first_line
-first_length First.NotYet First.NotYet = omega arith
-first_length First.NotYet (First.Frame frame number) = refused_length frame number
-first_length (First.Frame frame number) after = omega arith
+first_length None None = omega arith
+first_length None (Some first) = refused_length first.frame first.number
+first_length (Some first) after = omega arith
 
 any_length : (n : ℕ) (words : List ℕ) → length (where_any n words) ≤ length words + 21
 unfolding where_any

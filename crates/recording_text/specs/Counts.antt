@@ -1,13 +1,13 @@
 -- What is counted of a lead while it is recorded: its whole frames, those whose odometer was
 -- refused, and the records by what they say.
 -- Assumes nothing.
-use Rattle.std.specs.Prelude.{ℕ, zero, suc, ◌+◌, List, [], ◌∷◌, eqb, ltb}
+use Rattle.std.specs.Prelude.{ℕ, zero, suc, ◌+◌, List, [], ◌∷◌, eqb, ltb, Option, Some, None}
 use Rattle.words.specs.Answer.{Outcome, gives, refuses, pick}
 use Rattle.ride.specs.Record.{kind_of}
 unfoldable pub use Rattle.antenna.specs.Places.{more}
 use Rattle.recording.specs.Frame.{odometer_of}
 use Rattle.recording.specs.Recording.{frames_of}
-use Rattle.recording_text.specs.declared.First.{First}
+use Rattle.recording_text.specs.declared.RefusedFrame.{RefusedFrame}
 use Rattle.recording_text.specs.declared.Frames.{Frames}
 use Rattle.recording_text.specs.declared.Records.{Records}
 
@@ -20,12 +20,12 @@ judge_frame last given = pick (ltb 4000000000 given) (refuses 18) (pick (ltb giv
 
 -- Before any frame: "(0 before the first)".
 unfoldable pub no_frames : Frames
-no_frames = record { frames = 0; refused = 0; first = First.NotYet; odometer = 0 }
+no_frames = record { frames = 0; refused = 0; first = None; odometer = 0 }
 
 -- The first refused frame stays the first.
-abbrev pub or_first : First → ℕ → ℕ → First
-or_first First.NotYet frame number = First.Frame frame number
-or_first (First.Frame earlier with) frame number = First.Frame earlier with
+abbrev pub or_first : Option RefusedFrame → ℕ → ℕ → Option RefusedFrame
+or_first None frame number = Some (record { frame = frame; number = number })
+or_first (Some earlier) frame number = Some earlier
 
 -- One frame more, accepted with its odometer or refused with a number; frames are counted from 1.
 abbrev pub with_frame : Frames → Outcome ℕ → Frames

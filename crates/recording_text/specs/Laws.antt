@@ -1,7 +1,7 @@
 -- What is promised of the counts: they do not depend on how a lead is cut, they count what is
 -- recorded, and a frame is refused exactly where the recording keeps the last accepted odometer.
 -- Assumes nothing.
-use Rattle.std.specs.Prelude.{ℕ, ◌+◌, ◌*◌, ◌<◌, ◌≤◌, ◌^◌, ◌≡◌, List, ◌++◌, length}
+use Rattle.std.specs.Prelude.{ℕ, ◌+◌, ◌*◌, ◌≤◌, ◌≡◌, List, ◌++◌, length}
 use Rattle.words.specs.Answer.{Outcome, gives, refuses}
 use Rattle.words.specs.Limits.{largest64}
 use Rattle.settings.specs.declared.Store.{Store}

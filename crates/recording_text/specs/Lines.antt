@@ -4,12 +4,12 @@
 -- `record: bytes after the last frame 5`, then always
 -- `record: frames 5200, contacts 12, read 10, markers 1, unreadable 1, records 530`".
 -- Assumes nothing.
-use Rattle.std.specs.Prelude.{ℕ, List, [], ◌++◌, eqb}
+use Rattle.std.specs.Prelude.{ℕ, List, [], ◌++◌, eqb, Option, Some, None}
 use Prim.Native.String.{String}
 use Rattle.words.specs.Answer.{pick}
 use Rattle.text.specs.Text.{codes, decimal}
 use Rattle.refusals.specs.Words.{refused}
-use Rattle.recording_text.specs.declared.First.{First}
+use Rattle.recording_text.specs.declared.RefusedFrame.{RefusedFrame}
 use Rattle.recording_text.specs.declared.Frames.{Frames}
 use Rattle.recording_text.specs.declared.Records.{Records}
 
@@ -19,10 +19,10 @@ refused_line frame number = codes "record: frame " ++ decimal frame ++ codes " "
 
 -- What is said of the first refused frame after some frames: its line if it came among them, and
 -- nothing else.
-unfoldable pub first_line : First → First → List ℕ
-first_line First.NotYet (First.Frame frame number) = refused_line frame number
-first_line First.NotYet First.NotYet = []
-first_line (First.Frame frame number) now = []
+unfoldable pub first_line : Option RefusedFrame → Option RefusedFrame → List ℕ
+first_line None (Some first) = refused_line first.frame first.number
+first_line None None = []
+first_line (Some first) now = []
 
 -- A line of a number that is said where it is not 0.
 unfoldable pub where_any : ℕ → List ℕ → List ℕ

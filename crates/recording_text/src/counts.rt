@@ -4,7 +4,7 @@ ghost use Rattle.words.specs.Answer.{refuses, pick};
 ghost use Rattle.recording.specs.Frame.{odometer_of};
 ghost use Rattle.recording_text.specs.Counts.{more, judge_frame, or_first, with_frame, count_frames};
 
-use crate::{First, Frames};
+use crate::{Frames, RefusedFrame};
 
 // One more; no count goes above 2^64 - 1.
 pub fn more(n: u64) -> u64
@@ -29,13 +29,10 @@ fn odometer(piece: &[u8], k: usize) -> u32
 }
 
 // The first refused frame, where this one is refused too.
-fn or_first(first: First, frame: u64, number: u8) -> First
+fn or_first(first: Option<RefusedFrame>, frame: u64, number: u8) -> Option<RefusedFrame>
     ensures { result ≡ or_first first frame number }
 {
-    match first {
-        First::NotYet => First::Frame(frame, number),
-        First::Frame(earlier, with) => First::Frame(earlier, with),
-    }
+    first.or(Some(RefusedFrame { frame, number }))
 }
 
 // One frame more, refused with this number.
@@ -77,10 +74,8 @@ pub fn over(frames: Frames, piece: &[u8]) -> Frames
 {
     let n = piece.len() / 16;
     let mut counted = frames;
-    let mut k: usize = 0;
-    while k < n {
+    for k in 0..n {
         counted = with_frame(counted, odometer(piece, k));
-        k += 1;
     }
     counted
 }

@@ -14,21 +14,20 @@ ghost use Rattle.recording_text.specs.Lines.{first_line, end_lines};
 mod counts;
 mod lines;
 
-// The first frame whose odometer was refused: none yet, or its number, counted from 1, with 17 or
-// 18.
+// A frame whose odometer was refused: its number, counted from 1, and 17 or 18.
 #[derive(Clone, Copy)]
-pub enum First {
-    NotYet,
-    Frame(u64, u8),
+pub struct RefusedFrame {
+    pub frame: u64,
+    pub number: u8,
 }
 
-// Whole frames so far, those refused among them, the first of these, and the last accepted
-// odometer.
+// Whole frames so far, those refused among them, the first of these if there is one, and the last
+// accepted odometer.
 #[derive(Clone, Copy)]
 pub struct Frames {
     pub frames: u64,
     pub refused: u64,
-    pub first: First,
+    pub first: Option<RefusedFrame>,
     pub odometer: u32,
 }
 
@@ -49,7 +48,7 @@ pub fn no_frames() -> Frames
     Frames {
         frames: 0,
         refused: 0,
-        first: First::NotYet,
+        first: None,
         odometer: 0,
     }
 }
@@ -90,7 +89,12 @@ pub fn count_record(records: Records, bytes: [u8; 8]) -> Records
 
 // What is said of the first refused frame after some frames, into buf from `at` on, and the place
 // after it; without room buf stays as it is, and the answer is `at`.
-pub fn put_first(before: First, after: First, buf: &mut [u8], at: usize) -> usize
+pub fn put_first(
+    before: Option<RefusedFrame>,
+    after: Option<RefusedFrame>,
+    buf: &mut [u8],
+    at: usize,
+) -> usize
     ensures { came result buf.new ≡ put (first_line before after) buf.old at }
 {
     let mut space = [0u8; 128];

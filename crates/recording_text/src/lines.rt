@@ -4,7 +4,7 @@ ghost use Rattle.text.specs.Text.{codes, decimal};
 ghost use Rattle.text.specs.Put.{put, came};
 ghost use Rattle.recording_text.specs.Lines.{refused_line, first_line, where_any, sum_line, end_lines};
 
-use crate::{First, Frames, Records};
+use crate::{Frames, Records, RefusedFrame};
 use refusals::put_refused;
 use text::{put, put_number};
 
@@ -19,15 +19,20 @@ fn spell_refused(frame: u64, number: u8, buf: &mut [u8], at: usize) -> usize
 }
 
 // That of the first one, where it came just now.
-pub fn spell_first(before: First, after: First, buf: &mut [u8], at: usize) -> usize
+pub fn spell_first(
+    before: Option<RefusedFrame>,
+    after: Option<RefusedFrame>,
+    buf: &mut [u8],
+    at: usize,
+) -> usize
     requires { at + length (first_line before after) ≤ length buf.old }
     ensures { came result buf.new ≡ put (first_line before after) buf.old at }
 {
     match before {
-        First::Frame(_, _) => put(b"", buf, at),
-        First::NotYet => match after {
-            First::NotYet => put(b"", buf, at),
-            First::Frame(frame, number) => spell_refused(frame, number, buf, at),
+        Some(_) => put(b"", buf, at),
+        None => match after {
+            None => put(b"", buf, at),
+            Some(first) => spell_refused(first.frame, first.number, buf, at),
         },
     }
 }

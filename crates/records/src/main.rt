@@ -7,16 +7,16 @@
 
 mod blocks;
 
-use console::Cards;
+use console::NoCards;
 
 // Goes over the cards twice: once for their lengths, once for the records.
 fn main(rt: HostRuntime) {
     let mut lengths = [0u64; 8192];
     let mut block = blocks::room();
     match console::find_cards(&rt, b"records", 1, &mut lengths, &mut block) {
-        Cards::Whole => blocks::write_cards(&rt, &lengths, &mut block),
-        Cards::BadLength => console::refuse_trace(&rt, b"records"),
-        Cards::NoCard => console::usage(&rt, b"records", b"records CARD.."),
-        Cards::Said => {}
+        Ok(()) => blocks::write_cards(&rt, &lengths, &mut block),
+        Err(NoCards::BadLength) => console::refuse_trace(&rt, b"records"),
+        Err(NoCards::NoCard) => console::usage(&rt, b"records", b"records CARD.."),
+        Err(NoCards::Said) => {}
     }
 }

@@ -15,7 +15,9 @@ use denote.Enum.Declared.{tag_of}
 use Rattle.words.specs.Answer.{Outcome, gives, refuses}
 use Rattle.ride.specs.declared.Line.{Line}
 use Rattle.ride.specs.declared.Ride.{Ride}
-use Rattle.ride.specs.declared.trace.Given.{Given}
+use Rattle.std.specs.Prelude.{Result}
+use Rattle.ride.specs.declared.Lines.{Lines}
+use Rattle.ride.specs.declared.Wrong.{Wrong}
 use Rattle.ride.specs.declared.trace.Reply.{Reply}
 use Rattle.ride.specs.declared.trace.Treated.{Treated}
 use Rattle.ride.specs.Joining.{allowed}
@@ -49,11 +51,11 @@ never_both : (A : Type 0) (o : Outcome (List Line)) → ◌≡◌ {A = Outcome S
 never_both A o e = cannot_be cc
 
 -- A reply with a record: it stands in the trace, and its step is what was answered.
-pub record Took (ride : Ride) (gap : ℕ) (trace : List ℕ) (i : ℕ) (t : Treated) (g : Given) : Type 0 where
+pub record Took (ride : Ride) (gap : ℕ) (trace : List ℕ) (i : ℕ) (t : Treated) (g : Result Lines Wrong) : Type 0 where
   pub there : i < length trace / 8
   pub step : ◌≡◌ {A = Step} (record { lines = says_given g; closed = t.closed; ride = t.ride }) (treat ride gap (record_at trace i))
 
-same_lines : (s : Step) (t : Treated) (g : Given) → t.reply ≡ Reply.Record g → says_treated t ≡ by_step s
+same_lines : (s : Step) (t : Treated) (g : Result Lines Wrong) → t.reply ≡ Reply.Record g → says_treated t ≡ by_step s
     → ◌≡◌ {A = Step} (record { lines = says_given g; closed = t.closed; ride = t.ride }) s
 same_lines s t g e h =
     let reply : gives (treated (says_given g)) ≡ gives (treated s.lines) = ap says_reply (sym e) ∙ ap (λ (x : Treatment). x.reply) h in
@@ -62,7 +64,7 @@ same_lines s t g e h =
     let after : t.ride ≡ s.ride = ap (λ (x : Treatment). x.ride) h in
     rw (lines, closed, after)
 
-took_by : (b : Bool) (ride : Ride) (gap : ℕ) (trace : List ℕ) (i : ℕ) (t : Treated) (g : Given) → allowed gap ≡ true → ltb i (length trace / 8) ≡ b
+took_by : (b : Bool) (ride : Ride) (gap : ℕ) (trace : List ℕ) (i : ℕ) (t : Treated) (g : Result Lines Wrong) → allowed gap ≡ true → ltb i (length trace / 8) ≡ b
     → says_treated t ≡ treat_at ride gap trace i → t.reply ≡ Reply.Record g → Took ride gap trace i t g
 took_by true ride gap trace i t g a l h e =
     let there : i < length trace / 8 = ltb-true i (length trace / 8) l in
@@ -71,7 +73,7 @@ took_by false ride gap trace i t g a l h e =
     let none = h ∙ sym (at_none ride gap trace i a (ltb-false i (length trace / 8) l)) in
     never_both _ (says_given g) (sym (ap (λ (x : Treatment). x.reply) none) ∙ ap says_reply e)
 
-pub took : (ride : Ride) (gap : ℕ) (trace : List ℕ) (i : ℕ) (t : Treated) (g : Given) → allowed gap ≡ true
+pub took : (ride : Ride) (gap : ℕ) (trace : List ℕ) (i : ℕ) (t : Treated) (g : Result Lines Wrong) → allowed gap ≡ true
     → says_treated t ≡ treat_at ride gap trace i → t.reply ≡ Reply.Record g → Took ride gap trace i t g
 took ride gap trace i t g a h e = took_by (ltb i (length trace / 8)) ride gap trace i t g a refl h e
 

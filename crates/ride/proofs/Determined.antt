@@ -11,18 +11,18 @@ use Rattle.ride.specs.Record.{Entry}
 use Rattle.ride.specs.Step.{Step, End}
 use Rattle.ride.specs.At.{Standing, no_record, treated, Treatment}
 use Rattle.ride.specs.Over.{Through, Run}
-use Rattle.ride.specs.Says.{says_wrong, says_checked, says_lines, says_report, says_given, says_reply, says_stepped, says_treated, says_ended, says_way, says_ran}
+use Rattle.ride.specs.Says.{says_wrong, says_checked, says_lines, says_report, says_given, says_reply, says_stepped, says_treated, says_ended, says_trace_refused, says_way, says_ran}
 use Rattle.ride.specs.declared.Wrong.{Wrong}
 use Rattle.ride.specs.declared.Checked.{Checked}
 use Rattle.ride.specs.declared.Line.{Line}
 use Rattle.ride.specs.declared.Lines.{Lines}
-use Rattle.ride.specs.declared.Report.{Report}
-use Rattle.ride.specs.declared.trace.Given.{Given}
+use Rattle.ride.specs.declared.StepRefused.{StepRefused}
 use Rattle.ride.specs.declared.trace.Reply.{Reply}
 use Rattle.ride.specs.declared.trace.Treated.{Treated}
 use Rattle.ride.specs.declared.Stepped.{Stepped}
 use Rattle.ride.specs.declared.Ended.{Ended}
-use Rattle.ride.specs.declared.Way.{Way}
+use Rattle.ride.specs.declared.TraceRefused.{TraceRefused}
+use Rattle.std.specs.Prelude.{Result, Ok, Err}
 use Rattle.ride.specs.declared.Ran.{Ran}
 use Rattle.ride.proofs.fresh.Kinds as fresh_kinds
 use Rattle.ride.proofs.fresh.Reads as fresh_reads
@@ -51,13 +51,13 @@ wrong_back Wrong.Malformed = refl
 wrong_back Wrong.TooHigh = refl
 wrong_back Wrong.TooLow = refl
 
-abbrev pub checked_of : Outcome Entry → Checked
-checked_of (gives e) = Checked.Accepted e.odometer e.passed
-checked_of (refuses n) = Checked.Refused (wrong_of n)
+abbrev pub checked_of : Outcome Entry → Result Checked Wrong
+checked_of (gives e) = Ok (record { odometer = e.odometer; passed = e.passed })
+checked_of (refuses n) = Err (wrong_of n)
 
-pub checked_back : (r : Checked) → checked_of (says_checked r) ≡ r
-checked_back (Checked.Accepted odometer passed) = refl
-checked_back (Checked.Refused w) = ap Checked.Refused (wrong_back w)
+pub checked_back : (r : Result Checked Wrong) → checked_of (says_checked r) ≡ r
+checked_back (Ok checked) = refl
+checked_back (Err w) = ap Err (wrong_back w)
 
 abbrev pub lines_of : List Line → Lines
 lines_of [] = Lines.None
@@ -69,30 +69,30 @@ lines_back Lines.None = refl
 lines_back (Lines.One a) = refl
 lines_back (Lines.Two a b) = refl
 
-abbrev pub report_of : Outcome (List Line) → Report
-report_of (gives ls) = Report.Lines (lines_of ls)
-report_of (refuses n) = pick (eqb n 19) Report.Gap (Report.Refused (wrong_of n))
+abbrev pub report_of : Outcome (List Line) → Result Lines StepRefused
+report_of (gives ls) = Ok (lines_of ls)
+report_of (refuses n) = Err (pick (eqb n 19) StepRefused.Gap (StepRefused.Record (wrong_of n)))
 
-pub report_back : (r : Report) → report_of (says_report r) ≡ r
-report_back Report.Gap = refl
-report_back (Report.Refused Wrong.Malformed) = refl
-report_back (Report.Refused Wrong.TooHigh) = refl
-report_back (Report.Refused Wrong.TooLow) = refl
-report_back (Report.Lines ls) = ap Report.Lines (lines_back ls)
+pub report_back : (r : Result Lines StepRefused) → report_of (says_report r) ≡ r
+report_back (Err StepRefused.Gap) = refl
+report_back (Err (StepRefused.Record Wrong.Malformed)) = refl
+report_back (Err (StepRefused.Record Wrong.TooHigh)) = refl
+report_back (Err (StepRefused.Record Wrong.TooLow)) = refl
+report_back (Ok ls) = ap Ok (lines_back ls)
 
 abbrev pub stepped_of : Step → Stepped
 stepped_of s = record { ride = s.ride; closed = s.closed; report = report_of s.lines }
 
 pub stepped_back : (r : Stepped) → stepped_of (says_stepped r) ≡ r
-stepped_back r = ap (λ (p : Report). record { ride = r.ride; closed = r.closed; report = p }) (report_back r.report)
+stepped_back r = ap (λ (p : Result Lines StepRefused). record { ride = r.ride; closed = r.closed; report = p }) (report_back r.report)
 
-abbrev pub given_of : Outcome (List Line) → Given
-given_of (gives ls) = Given.Lines (lines_of ls)
-given_of (refuses n) = Given.Refused (wrong_of n)
+abbrev pub given_of : Outcome (List Line) → Result Lines Wrong
+given_of (gives ls) = Ok (lines_of ls)
+given_of (refuses n) = Err (wrong_of n)
 
-pub given_back : (g : Given) → given_of (says_given g) ≡ g
-given_back (Given.Refused w) = ap Given.Refused (wrong_back w)
-given_back (Given.Lines ls) = ap Given.Lines (lines_back ls)
+pub given_back : (g : Result Lines Wrong) → given_of (says_given g) ≡ g
+given_back (Err w) = ap Err (wrong_back w)
+given_back (Ok ls) = ap Ok (lines_back ls)
 
 abbrev pub reply_of : Outcome Standing → Reply
 reply_of (refuses n) = Reply.Gap
@@ -116,24 +116,31 @@ ended_of' e = record { ride = e.ride; closed = e.closed; lines = lines_of e.line
 pub ended_back : (r : Ended) → ended_of' (says_ended r) ≡ r
 ended_back r = ap (λ (ls : Lines). record { ride = r.ride; closed = r.closed; lines = ls }) (lines_back r.lines)
 
-abbrev pub way_of : Outcome Through → Way
-way_of (gives t) = Way.Through
-way_of (refuses n) = pick (eqb n 16) Way.Length (Way.Settings (bad_of n))
+-- From the number of a refusal, the refusal.
+abbrev pub trace_refused_of : ℕ → TraceRefused
+trace_refused_of n = pick (eqb n 16) TraceRefused.Length (TraceRefused.Settings (bad_of n))
 
-pub way_back : (w : Way) → way_of (says_way w) ≡ w
-way_back Way.Through = refl
-way_back (Way.Settings Bad.Pair) = refl
-way_back (Way.Settings Bad.Gap) = refl
-way_back (Way.Settings Bad.TooHigh) = refl
-way_back (Way.Settings Bad.NotAbove) = refl
-way_back (Way.Settings Bad.Full) = refl
-way_back Way.Length = refl
+pub trace_refused_back : (r : TraceRefused) → trace_refused_of (says_trace_refused r) ≡ r
+trace_refused_back (TraceRefused.Settings Bad.Pair) = refl
+trace_refused_back (TraceRefused.Settings Bad.Gap) = refl
+trace_refused_back (TraceRefused.Settings Bad.TooHigh) = refl
+trace_refused_back (TraceRefused.Settings Bad.NotAbove) = refl
+trace_refused_back (TraceRefused.Settings Bad.Full) = refl
+trace_refused_back TraceRefused.Length = refl
+
+abbrev pub way_of : Outcome Through → Result (Unit {0}) TraceRefused
+way_of (gives t) = Ok tt
+way_of (refuses n) = Err (trace_refused_of n)
+
+pub way_back : (w : Result (Unit {0}) TraceRefused) → way_of (says_way w) ≡ w
+way_back (Ok tt) = refl
+way_back (Err r) = ap Err (trace_refused_back r)
 
 abbrev pub ran_of : Run → Ran
 ran_of r = record { ride = r.ride; way = way_of r.answer }
 
 pub ran_back : (r : Ran) → ran_of (says_ran r) ≡ r
-ran_back r = ap (λ (w : Way). record { ride = r.ride; way = w }) (way_back r.way)
+ran_back r = ap (λ (w : Result (Unit {0}) TraceRefused). record { ride = r.ride; way = w }) (way_back r.way)
 
 pub fresh_determined : Fixed 0 fresh_kinds.ps fresh_kinds.r fresh_reads.Post
 fresh_determined κs a r r' x x' p q = p ∙ sym q

@@ -20,7 +20,9 @@ use Rattle.settings.proofs.Holding.{Holding, keeps, held_is}
 use Rattle.ride.specs.declared.Ride.{Ride}
 use Rattle.ride.specs.Record.{Entry, odometer_of, passed_of, in_order_meant, check_record}
 use Rattle.ride.specs.Step.{Step, refuse_or, treat}
-use Rattle.ride.specs.declared.trace.Given.{Given}
+use Rattle.std.specs.Prelude.{Result}
+use Rattle.ride.specs.declared.Lines.{Lines}
+use Rattle.ride.specs.declared.Wrong.{Wrong}
 use Rattle.ride.specs.declared.trace.Reply.{Reply}
 use Rattle.ride.specs.declared.trace.Treated.{Treated}
 use Rattle.ride.specs.At.{record_at, odometer_at, Treatment, treat_at}
@@ -91,12 +93,12 @@ module _ (store : Store) (held next : Held) (ride : Ride) (trace : List ℕ) (i 
 
   -- With a record: it stands in the trace, and its step is that with the gap in force at its own
   -- odometer.
-  pub record Turned (g : Given) : Type 0 where
+  pub record Turned (g : Result Lines Wrong) : Type 0 where
     pub there : i < length trace / 8
     pub holding : Holding store next
     pub step : ◌≡◌ {A = Step} (record { lines = says_given g; closed = t.closed; ride = t.ride }) (treat ride (gap_at store (odometer_of (record_at trace i))) (record_at trace i))
 
-  pub turned : (g : Given) → t.reply ≡ Reply.Record g → Turned g
+  pub turned : (g : Result Lines Wrong) → t.reply ≡ Reply.Record g → Turned g
   turned g e =
       let one = took ride next.gap trace i t g now_held.gap turn.says e in
       record {

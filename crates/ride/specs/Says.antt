@@ -1,21 +1,20 @@
 -- The numbers and values of document 01 for each case of this crate's answers.
 -- Assumes nothing.
-use Rattle.std.specs.Prelude.{ℕ, List, [], ◌∷◌}
+use Rattle.std.specs.Prelude.{ℕ, Result, Ok, Err, List, [], ◌∷◌}
 use Rattle.words.specs.Answer.{Outcome, gives, refuses}
 use Rattle.settings.specs.Says.{says_bad}
 use Rattle.ride.specs.declared.Wrong.{Wrong}
 use Rattle.ride.specs.declared.Checked.{Checked}
 use Rattle.ride.specs.declared.Line.{Line}
 use Rattle.ride.specs.declared.Lines.{Lines}
-use Rattle.ride.specs.declared.Report.{Report}
-use Rattle.ride.specs.declared.trace.Given.{Given}
+use Rattle.ride.specs.declared.StepRefused.{StepRefused}
 use Rattle.ride.specs.declared.trace.Reply.{Reply}
 use Rattle.ride.specs.declared.trace.Treated.{Treated}
 use Rattle.ride.specs.declared.closing.Closed.{Closed}
 use Rattle.ride.specs.declared.treating.Treating.{Treating}
 use Rattle.ride.specs.declared.Stepped.{Stepped}
 use Rattle.ride.specs.declared.Ended.{Ended}
-use Rattle.ride.specs.declared.Way.{Way}
+use Rattle.ride.specs.declared.TraceRefused.{TraceRefused}
 use Rattle.ride.specs.declared.Ran.{Ran}
 use Rattle.ride.specs.Record.{Entry}
 use Rattle.ride.specs.Closing.{Closing}
@@ -31,9 +30,9 @@ says_wrong Wrong.TooHigh = 18
 says_wrong Wrong.TooLow = 17
 
 -- What an accepted record says, or the number of its refusal.
-abbrev pub says_checked : Checked → Outcome Entry
-says_checked (Checked.Accepted odometer passed) = gives (record { odometer = odometer; passed = passed })
-says_checked (Checked.Refused w) = refuses (says_wrong w)
+abbrev pub says_checked : Result Checked Wrong → Outcome Entry
+says_checked (Ok checked) = gives (record { odometer = checked.odometer; passed = checked.passed })
+says_checked (Err w) = refuses (says_wrong w)
 
 -- The lines in order.
 abbrev pub says_lines : Lines → List Line
@@ -41,16 +40,20 @@ says_lines Lines.None = []
 says_lines (Lines.One a) = a ∷ []
 says_lines (Lines.Two a b) = a ∷ b ∷ []
 
--- The lines of a step; "gap outside 1 to 200" is 19, a refused record has its own number.
-abbrev pub says_report : Report → Outcome (List Line)
-says_report Report.Gap = refuses 19
-says_report (Report.Refused w) = refuses (says_wrong w)
-says_report (Report.Lines lines) = gives (says_lines lines)
+-- "gap outside 1 to 200" is 19, a refused record has its own number.
+abbrev pub says_step_refused : StepRefused → ℕ
+says_step_refused StepRefused.Gap = 19
+says_step_refused (StepRefused.Record w) = says_wrong w
+
+-- The lines of a step, or the number of its refusal.
+abbrev pub says_report : Result Lines StepRefused → Outcome (List Line)
+says_report (Ok lines) = gives (says_lines lines)
+says_report (Err refused) = refuses (says_step_refused refused)
 
 -- The lines of a record, or the number of its refusal.
-abbrev pub says_given : Given → Outcome (List Line)
-says_given (Given.Refused w) = refuses (says_wrong w)
-says_given (Given.Lines lines) = gives (says_lines lines)
+abbrev pub says_given : Result Lines Wrong → Outcome (List Line)
+says_given (Err w) = refuses (says_wrong w)
+says_given (Ok lines) = gives (says_lines lines)
 
 -- "gap outside 1 to 200" is 19; no such record; or what the record gives.
 abbrev pub says_reply : Reply → Outcome Standing
@@ -80,10 +83,14 @@ says_ended e = record { lines = says_lines e.lines; closed = e.closed; ride = e.
 
 -- Settings that are refused have their own number ("gap outside 1 to 200" is 19); "trace length not
 -- a multiple of 8" is 16.
-abbrev pub says_way : Way → Outcome Through
-says_way Way.Through = gives through
-says_way (Way.Settings bad) = refuses (says_bad bad)
-says_way Way.Length = refuses 16
+abbrev pub says_trace_refused : TraceRefused → ℕ
+says_trace_refused (TraceRefused.Settings bad) = says_bad bad
+says_trace_refused TraceRefused.Length = 16
+
+-- That a run went through, or the number of its refusal.
+abbrev pub says_way : Result (Unit {0}) TraceRefused → Outcome Through
+says_way (Ok done) = gives through
+says_way (Err refused) = refuses (says_trace_refused refused)
 
 -- A run: how it went, and the state after it.
 abbrev pub says_ran : Ran → Run

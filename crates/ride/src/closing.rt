@@ -13,7 +13,7 @@ use crate::joining::no_group;
 use crate::knowing::{known_from, nothing_known};
 use crate::shown::seen_from;
 use crate::{Ended, Known, Line, Lines, Mark, Ride, Seen};
-use group::{Group, GroupJudged, Message, Number};
+use group::{Group, Message, Number};
 use group_rows::{Direction, Kind};
 
 // What closing leaves: its lines, the group that closed, the group that is there then, and what is
@@ -77,12 +77,8 @@ pub fn judge(group: Group, known: Known) -> GroupVerdict
     ensures { says_group_verdict result ≡ record { line = line_of group known.linking (judge group); known = known_after (judge group) known } }
 {
     match group::judge(group) {
-        GroupJudged::Accepted(message) => accepted(group, known, message),
-        GroupJudged::One => faulty(group, known, 10),
-        GroupJudged::Many => faulty(group, known, 11),
-        GroupJudged::Unread => faulty(group, known, 12),
-        GroupJudged::NoRow => faulty(group, known, 13),
-        GroupJudged::NoDistance => faulty(group, known, 15),
+        Ok(message) => accepted(group, known, message),
+        Err(refused) => faulty(group, known, u8::from(refused)),
     }
 }
 

@@ -4,7 +4,7 @@ ghost use Rattle.settings.specs.At.{hold, held_for};
 ghost use Rattle.ride.specs.At.{odometer_at};
 
 use crate::trace::odometer_at;
-use settings::{Asked, Held, Store};
+use settings::{Held, Store};
 
 // The settings to hold at a place that is asked for: those in force there; where asking is refused,
 // those held before.
@@ -13,8 +13,8 @@ fn hold(store: Store, held: Held, place: u32) -> Held
 {
     let asked = settings::at(store, place);
     match asked {
-        Asked::InForce(next) => next,
-        Asked::Refused(_) => held,
+        Ok(next) => next,
+        Err(_) => held,
     }
 }
 

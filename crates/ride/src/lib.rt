@@ -10,6 +10,7 @@ ghost use Rattle.std.specs.Prelude.{◌≡◌};
 ghost use Rattle.ride.specs.State.{fresh_ride};
 ghost use Rattle.ride.specs.Step.{step, end};
 ghost use Rattle.ride.specs.Over.{run};
+ghost use Rattle.ride.specs.declared.TraceRefused.TheVariants.{Settings};
 ghost use Rattle.ride.specs.Says.{says_stepped, says_ended, says_ran};
 
 mod anew;
@@ -28,8 +29,8 @@ use group::{Group, Heard, Number, Told};
 use group_rows::{Direction, Kind};
 pub use holding::held_at;
 pub use records::check_record;
-use settings::{Asked, Bad, Store, allowed};
-pub use trace::{Given, Reply, Treated, odometer_at, treat_at};
+use settings::{Bad, Store, allowed};
+pub use trace::{Reply, Treated, odometer_at, treat_at};
 
 // Linking: not set, or set with a distance in dm from a place.
 #[derive(Clone, Copy)]
@@ -63,18 +64,18 @@ pub enum Passed {
 }
 
 // Why a record is refused: 16, 18 and 17 in this order.
-#[derive(Clone, Copy)]
+#[derive(Clone, Copy, PartialEq, Eq)]
 pub enum Wrong {
     Malformed,
     TooHigh,
     TooLow,
 }
 
-// What checking a record answers: its odometer and what it says, or why it is refused.
+// What an accepted record says: its odometer, and what passed there.
 #[derive(Clone, Copy)]
-pub enum Checked {
-    Accepted(u32, Passed),
-    Refused(Wrong),
+pub struct Checked {
+    pub odometer: u32,
+    pub passed: Passed,
 }
 
 // The mark of a present signal; other groups have none.
@@ -116,20 +117,20 @@ pub enum Lines {
     Two(Line, Line),
 }
 
-// What a step reports: that the gap is refused (19), why the record is, or its lines.
-#[derive(Clone, Copy)]
-pub enum Report {
+// Why a step is refused: for the gap (19), or for the record.
+#[derive(Clone, Copy, PartialEq, Eq)]
+pub enum StepRefused {
     Gap,
-    Refused(Wrong),
-    Lines(Lines),
+    Record(Wrong),
 }
 
-// What a step answers: the state after it, the group that closed (count 0: none), the report.
+// What a step answers: the state after it, the group that closed (count 0: none), and its lines, or
+// why it is refused.
 #[derive(Clone, Copy)]
 pub struct Stepped {
     pub ride: Ride,
     pub closed: Group,
-    pub report: Report,
+    pub report: Result<Lines, StepRefused>,
 }
 
 // What ending the ride answers: the state after it, the group that closed, and its line.
@@ -140,19 +141,26 @@ pub struct Ended {
     pub lines: Lines,
 }
 
-// How a run went: through all records, or refused for the settings or the trace's length (16).
-#[derive(Clone, Copy)]
-pub enum Way {
-    Through,
+// Why nothing goes over a trace: for the settings (their number), or the trace's length (16).
+#[derive(Clone, Copy, PartialEq, Eq)]
+pub enum TraceRefused {
     Settings(Bad),
     Length,
 }
 
-// What a run over a trace answers: the state after it, and how it went.
+impl From<Bad> for TraceRefused {
+    ghost from_gives = { λ bad e. e ≡ Settings bad };
+
+    fn from(bad: Bad) -> TraceRefused {
+        TraceRefused::Settings(bad)
+    }
+}
+
+// What a run over a trace answers: the state after it, and that it went through, or why not.
 #[derive(Clone, Copy)]
 pub struct Ran {
     pub ride: Ride,
-    pub way: Way,
+    pub way: Result<(), TraceRefused>,
 }
 
 // A fresh ride: the odometer at 0, no open group and nothing known.
@@ -176,7 +184,7 @@ pub fn step(ride: Ride, gap: u32, bytes: [u8; 8]) -> Stepped
         return Stepped {
             ride,
             closed: none,
-            report: Report::Gap,
+            report: Err(StepRefused::Gap),
         };
     }
     treating::reported(stepping::treat(ride, gap, bytes))
@@ -202,12 +210,12 @@ pub fn run(ride: Ride, store: Store, trace: &[u8]) -> Ran
 {
     let asked = settings::at(store, 0);
     match asked {
-        Asked::Refused(bad) => trace::went(ride, Way::Settings(bad)),
-        Asked::InForce(held) => {
+        Err(bad) => trace::went(ride, Err(TraceRefused::Settings(bad))),
+        Ok(held) => {
             if trace.len() % 8 != 0 {
-                return trace::went(ride, Way::Length);
+                return trace::went(ride, Err(TraceRefused::Length));
             }
-            trace::went(trace::over(ride, store, held, trace), Way::Through)
+            trace::went(trace::over(ride, store, held, trace), Ok(()))
         }
     }
 }

@@ -2,8 +2,6 @@
 ghost use Rattle.std.specs.Prelude.{◌≡◌, ◌+◌, ◌*◌};
 ghost use Rattle.ride.specs.Record.{odometer_of, in_order_meant, passed_of, check_record};
 ghost use Rattle.ride.specs.Says.{says_checked};
-ghost use Rattle.ride.specs.declared.Wrong.{Wrong};
-ghost use Rattle.ride.specs.declared.Checked.{Checked};
 
 use crate::{Checked, Passed, Ride, Wrong};
 use group::Heard;
@@ -50,29 +48,19 @@ fn what_passed(bytes: [u8; 8]) -> Passed
 
 // The check of a record's eight bytes: 16, 18, 17 in this order, or what the record says. That is
 // read first, since its kind is looked at then once and not again after the odometer.
-pub fn check_record(ride: Ride, bytes: [u8; 8]) -> Checked
+pub fn check_record(ride: Ride, bytes: [u8; 8]) -> Result<Checked, Wrong>
     ensures { says_checked result ≡ check_record ride.odometer bytes }
 {
     let passed = what_passed(bytes);
     if !in_order(bytes) {
-        return Checked::Refused(Wrong::Malformed);
+        return Err(Wrong::Malformed);
     }
     let odometer = odometer_of(bytes);
     if odometer > 4000000000 {
-        return Checked::Refused(Wrong::TooHigh);
+        return Err(Wrong::TooHigh);
     }
     if odometer < ride.odometer {
-        return Checked::Refused(Wrong::TooLow);
+        return Err(Wrong::TooLow);
     }
-    Checked::Accepted(odometer, passed)
-}
-
-// Why a refused record is refused.
-pub fn why(checked: Checked) -> Wrong
-    ensures { (w : Wrong) → checked ≡ Checked.Refused w → result ≡ w }
-{
-    match checked {
-        Checked::Refused(wrong) => wrong,
-        Checked::Accepted(_, _) => Wrong::Malformed,
-    }
+    Ok(Checked { odometer, passed })
 }

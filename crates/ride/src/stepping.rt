@@ -8,9 +8,9 @@ ghost use Rattle.ride.specs.Says.{says_lines, says_treating, says_closed};
 use crate::closing::{Closed, close, judge, leave};
 use crate::joining::{exceeds, is_open, take_up};
 use crate::marks::{is_overdue, missed_place};
-use crate::records::{check_record, why};
+use crate::records::check_record;
 use crate::treating::{Treating, nothing_closed};
-use crate::{Checked, Given, Known, Line, Lines, Linking, Passed, Ride};
+use crate::{Known, Line, Lines, Linking, Passed, Ride};
 use group::Group;
 
 // Whether the group is left behind: it is open, and the odometer exceeds its last balise by more
@@ -90,7 +90,7 @@ fn all_steps(ride: Ride, gap: u32, odometer: u32, passed: Passed) -> Treating
                 known: after,
             },
             closed,
-            given: Given::Lines(and_missed(lines, missed_place(linking))),
+            given: Ok(and_missed(lines, missed_place(linking))),
         };
     }
     Treating {
@@ -100,7 +100,7 @@ fn all_steps(ride: Ride, gap: u32, odometer: u32, passed: Passed) -> Treating
             known,
         },
         closed,
-        given: Given::Lines(lines),
+        given: Ok(lines),
     }
 }
 
@@ -132,7 +132,7 @@ fn go_on(ride: Ride, gap: u32, odometer: u32, passed: Passed) -> Treating
             group,
             known,
         };
-        return nothing_closed(after, Given::Lines(Lines::None));
+        return nothing_closed(after, Ok(Lines::None));
     }
     all_steps(ride, gap, odometer, passed)
 }
@@ -141,9 +141,8 @@ fn go_on(ride: Ride, gap: u32, odometer: u32, passed: Passed) -> Treating
 pub fn treat(ride: Ride, gap: u32, bytes: [u8; 8]) -> Treating
     ensures { says_treating result ≡ treat ride gap bytes }
 {
-    let checked = check_record(ride, bytes);
-    let Checked::Accepted(odometer, passed) = checked else {
-        return nothing_closed(ride, Given::Refused(why(checked)));
-    };
-    go_on(ride, gap, odometer, passed)
+    match check_record(ride, bytes) {
+        Ok(checked) => go_on(ride, gap, checked.odometer, checked.passed),
+        Err(wrong) => nothing_closed(ride, Err(wrong)),
+    }
 }

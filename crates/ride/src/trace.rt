@@ -14,24 +14,18 @@ use crate::holding::held_at;
 use crate::joining::no_group;
 use crate::records::high_first;
 use crate::stepping::treat;
-use crate::{Lines, Ran, Ride, Way, Wrong};
+use crate::{Lines, Ran, Ride, TraceRefused, Wrong};
 use group::Group;
 use settings::{Held, Store, allowed};
 
-// What a record gives: why it is refused, or its lines.
-#[derive(Clone, Copy)]
-pub enum Given {
-    Refused(Wrong),
-    Lines(Lines),
-}
-
 // What treating the record at an index replies: that the gap is refused (19), that the trace has no
 // such record, or what it gives.
+// Stays as it is: `Result<Option<Result<Lines, Wrong>>, GapRefused>` is no plainer.
 #[derive(Clone, Copy)]
 pub enum Reply {
     Gap,
     NoRecord,
-    Record(Given),
+    Record(Result<Lines, Wrong>),
 }
 
 // What treating the record at an index answers: the state after it, the group that closed (none:
@@ -107,7 +101,7 @@ pub fn treat_at(ride: Ride, gap: u32, trace: &[u8], i: usize) -> Treated
 }
 
 // What a run answers.
-pub fn went(ride: Ride, way: Way) -> Ran
+pub fn went(ride: Ride, way: Result<(), TraceRefused>) -> Ran
     ensures { says_ran result ≡ record { answer = says_way way; ride = ride } }
 {
     Ran { ride, way }
@@ -122,12 +116,10 @@ pub fn over(ride: Ride, store: Store, first: Held, trace: &[u8]) -> Ride
     let count = trace.len() / 8;
     let mut now = ride;
     let mut held = first;
-    let mut i: usize = 0;
-    while i < count {
+    for i in 0..count {
         held = held_at(store, held, trace, i);
         let treated = treat_at(now, held.gap, trace, i);
         now = treated.ride;
-        i += 1;
     }
     now
 }

@@ -4,7 +4,7 @@ ghost use Rattle.ride.specs.State.{no_group};
 ghost use Rattle.ride.specs.Says.{says_given, says_treating, says_stepped};
 
 use crate::joining::no_group;
-use crate::{Given, Report, Ride, Stepped};
+use crate::{Lines, Ride, StepRefused, Stepped, Wrong};
 use group::Group;
 
 // What treating a record leaves: the state, the group that closed, and what the record gives.
@@ -12,11 +12,11 @@ use group::Group;
 pub struct Treating {
     pub ride: Ride,
     pub closed: Group,
-    pub given: Given,
+    pub given: Result<Lines, Wrong>,
 }
 
 // A record by which no group closes.
-pub fn nothing_closed(ride: Ride, given: Given) -> Treating
+pub fn nothing_closed(ride: Ride, given: Result<Lines, Wrong>) -> Treating
     ensures { says_treating result ≡ record { lines = says_given given; closed = no_group; ride = ride } }
 {
     let none = no_group();
@@ -35,15 +35,15 @@ pub fn reported(treating: Treating) -> Stepped
     let closed = treating.closed;
     let given = treating.given;
     match given {
-        Given::Refused(wrong) => Stepped {
+        Err(wrong) => Stepped {
             ride,
             closed,
-            report: Report::Refused(wrong),
+            report: Err(StepRefused::Record(wrong)),
         },
-        Given::Lines(lines) => Stepped {
+        Ok(lines) => Stepped {
             ride,
             closed,
-            report: Report::Lines(lines),
+            report: Ok(lines),
         },
     }
 }

@@ -1,10 +1,9 @@
 // The records of the cards, block by block: in through `list`, out to standard output.
 ghost use Rattle.std.specs.Prelude.{◌≤◌};
 
-use crate::saying::{say_found, write};
-use console::{CardsFound, Goes, System};
+use crate::saying::{say_failed, write};
+use console::System;
 use ride::Ride;
-use ride_text::Done;
 use settings::Store;
 
 // How many bytes of a lent block are used at once: 8,192 records of 128 bytes of lines fill the
@@ -24,17 +23,15 @@ pub fn size(reasons: bool, lent: usize) -> usize
     lent
 }
 
-// Where the ride stands: the state, the next record's number, and whether all reads and writes so
-// far succeeded.
+// Where the ride stands: the state, and the next record's number.
 #[derive(Clone, Copy)]
 pub struct Listing {
     ride: Ride,
     number: u64,
-    is_good: bool,
 }
 
-// Lists the records and writes their lines. Where out has room for the lines of them all, one call
-// of `list` takes them all.
+// Lists the records and writes their lines; where the ride stands then, if that succeeded. Where out
+// has room for the lines of them all, one call of `list` takes them all.
 fn write_records(
     rt: &impl System,
     program: &[u8],
@@ -43,29 +40,23 @@ fn write_records(
     from: Listing,
     records: &[u8],
     out: &mut [u8],
-) -> Listing {
+) -> Option<Listing> {
     let ride = from.ride;
     let listed = ride_text::list(reasons, ride, store, from.number, records, out);
     let done = listed.done;
     let after = listed.ride;
     let number = listed.number;
-    let Done::Took {
-        records: count,
-        bytes,
-    } = done
-    else {
-        return Listing {
+    let Ok(took) = done else {
+        return None;
+    };
+    let is_written = write(rt, program, reasons, out, took.bytes);
+    if is_written & (took.records == records.len() / 8) {
+        return Some(Listing {
             ride: after,
             number,
-            is_good: false,
-        };
-    };
-    let is_written = write(rt, program, reasons, out, bytes);
-    Listing {
-        ride: after,
-        number,
-        is_good: is_written & (count == records.len() / 8),
+        });
     }
+    None
 }
 
 // Writes the line of a group that the end of the ride closes.
@@ -75,21 +66,8 @@ fn write_end(rt: &impl System, program: &[u8], reasons: bool, ride: Ride) {
     write(rt, program, reasons, &out, n);
 }
 
-// What comes after the last block: the end's line where all cards were read, or what failed.
-fn finish(rt: &impl System, program: &[u8], reasons: bool, how: Goes, stand: Listing) {
-    let ride = stand.ride;
-    match how {
-        Goes::End => write_end(rt, program, reasons, ride),
-        Goes::CannotOpen(number) => say_found(rt, program, reasons, CardsFound::CannotOpen(number)),
-        Goes::CannotRead(number) => say_found(rt, program, reasons, CardsFound::CannotRead(number)),
-        Goes::NoRoom => {}
-        Goes::More => {}
-    }
-}
-
 // The lines of all records of the cards from this argument on, whose lengths were kept, as one ride
-// under the settings, and of its end. A proved loop has to end, and nothing says that a file does:
-// so it counts its turns down from a number that no run uses up.
+// under the settings, and of its end; or what failed.
 pub fn over(
     rt: &impl System,
     program: &[u8],
@@ -101,26 +79,20 @@ pub fn over(
     out: &mut [u8],
 ) {
     let ride = ride::fresh();
-    let mut stand = Listing {
-        ride,
-        number: 1,
-        is_good: true,
-    };
-    let mut pass = console::begin(first);
-    let mut turns = u64::MAX;
-    while turns > 0 {
-        let got = console::next_block(rt, pass, lengths, block);
-        let read = got.read;
-        stand = write_records(rt, program, reasons, store, stand, &block[..read], out);
-        if !stand.is_good {
-            return;
-        }
-        let how = got.how;
-        let Goes::More = how else {
-            finish(rt, program, reasons, how, stand);
-            return;
+    let mut stand = Listing { ride, number: 1 };
+    let went = console::over_cards(rt, first, lengths, block, |records| {
+        let listed = write_records(rt, program, reasons, store, stand, records, out);
+        let Some(then) = listed else {
+            return false;
         };
-        pass = got.pass;
-        turns -= 1;
+        stand = then;
+        true
+    });
+    match went {
+        Ok(()) => {
+            let last = stand.ride;
+            write_end(rt, program, reasons, last);
+        }
+        Err(failed) => say_failed(rt, program, reasons, failed),
     }
 }

@@ -11,7 +11,7 @@
 mod blocks;
 mod saying;
 
-use console::{CardsFound, OptionsWent, System};
+use console::{CallWrong, CardsWrong, System};
 use settings::Store;
 
 // The lines of the cards from this argument on, whose lengths were kept, by way of a lent block.
@@ -51,28 +51,22 @@ fn go_over(
 ) {
     let mut lengths = [0u64; 8192];
     let mut block = [0u8; 65536];
-    let found = console::go_over(rt, first, &mut lengths, &mut block);
-    match found {
-        CardsFound::Cards => list_all(rt, program, reasons, store, first, &lengths, &mut block),
-        CardsFound::BadLength(_) => saying::refuse_trace(rt, program, reasons),
-        CardsFound::NoCard => saying::usage(rt, program, call, reasons),
-        CardsFound::TooMany => saying::say_found(rt, program, reasons, found),
-        CardsFound::CannotOpen(_) => saying::say_found(rt, program, reasons, found),
-        CardsFound::CannotRead(_) => saying::say_found(rt, program, reasons, found),
-        CardsFound::Once(_) => saying::say_found(rt, program, reasons, found),
+    match console::go_over(rt, first, &mut lengths, &mut block) {
+        Ok(()) => list_all(rt, program, reasons, store, first, &lengths, &mut block),
+        Err(CardsWrong::BadLength(_)) => saying::refuse_trace(rt, program, reasons),
+        Err(CardsWrong::NoCard) => saying::usage(rt, program, call, reasons),
+        Err(wrong) => saying::say_found(rt, program, reasons, wrong),
     }
 }
 
 // The settings that `-s` names, or the gap of document 01; then the cards.
 pub fn list_cards(rt: &impl System, program: &[u8], call: &[u8], reasons: bool) {
-    let asked = console::options(rt, program, false);
-    let store = asked.store;
-    let first = asked.first;
-    let how = asked.how;
-    match how {
-        OptionsWent::Plain => go_over(rt, program, call, reasons, store, first),
-        OptionsWent::Settings => go_over(rt, program, call, reasons, store, first),
-        OptionsWent::Usage => saying::usage(rt, program, call, reasons),
-        OptionsWent::Said => {}
+    match console::options(rt, program, false) {
+        Ok(asked) => {
+            let store = asked.store;
+            go_over(rt, program, call, reasons, store, asked.first);
+        }
+        Err(CallWrong::Usage) => saying::usage(rt, program, call, reasons),
+        Err(CallWrong::Said) => {}
     }
 }

@@ -1,6 +1,6 @@
 // What is written, and what is said where something goes wrong: a plain listing tells the launcher
 // alone.
-use console::{CallEnded, CardsFound, Stream, System, tell};
+use console::{CallEnded, CardsWrong, PassFailed, Stream, System, tell};
 use ride::Line;
 
 // Writes the first bytes of a buffer.
@@ -35,23 +35,36 @@ pub fn usage(rt: &impl System, program: &[u8], call: &[u8], reasons: bool) {
 }
 
 // How a call ends by what was found wrong with the cards.
-fn ended(found: CardsFound) -> CallEnded {
-    match found {
-        CardsFound::Cards => CallEnded::Said,
-        CardsFound::NoCard => CallEnded::Usage,
-        CardsFound::TooMany => CallEnded::TooMany,
-        CardsFound::CannotOpen(_) => CallEnded::Unread,
-        CardsFound::CannotRead(_) => CallEnded::Unread,
-        CardsFound::BadLength(_) => CallEnded::Refused,
-        CardsFound::Once(_) => CallEnded::Once,
+fn ended(wrong: CardsWrong) -> CallEnded {
+    match wrong {
+        CardsWrong::NoCard => CallEnded::Usage,
+        CardsWrong::TooMany => CallEnded::TooMany,
+        CardsWrong::CannotOpen(_) => CallEnded::Unread,
+        CardsWrong::CannotRead(_) => CallEnded::Unread,
+        CardsWrong::BadLength(_) => CallEnded::Refused,
+        CardsWrong::Once(_) => CallEnded::Once,
     }
 }
 
 // What was found wrong with the cards.
-pub fn say_found(rt: &impl System, program: &[u8], reasons: bool, found: CardsFound) {
+pub fn say_found(rt: &impl System, program: &[u8], reasons: bool, wrong: CardsWrong) {
     if reasons {
-        console::say_found(rt, program, found);
+        console::say_found(rt, program, Err(wrong));
         return;
     }
-    tell(rt, ended(found));
+    tell(rt, ended(wrong));
+}
+
+// What ended a pass over the cards before all were read.
+pub fn say_failed(rt: &impl System, program: &[u8], reasons: bool, failed: PassFailed) {
+    match failed {
+        PassFailed::CannotOpen(card) => {
+            say_found(rt, program, reasons, CardsWrong::CannotOpen(card));
+        }
+        PassFailed::CannotRead(card) => {
+            say_found(rt, program, reasons, CardsWrong::CannotRead(card));
+        }
+        PassFailed::NoRoom => {}
+        PassFailed::NotTaken => {}
+    }
 }

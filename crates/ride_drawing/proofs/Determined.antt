@@ -4,7 +4,9 @@
 use mathlib.Core.Path.{◌≡◌, sym, ap, ◌∙◌}
 use mathlib.Core.List.{List}
 use Prim.Native.Nat.{ℕ}
-use Rattle.ride_text.specs.declared.Done.{Done}
+use Rattle.ride_text.specs.declared.Took.{Took}
+use Rattle.ride.specs.declared.TraceRefused.{TraceRefused}
+use Rattle.std.specs.Prelude.{Result}
 use Rattle.ride_text.proofs.Determined.{done_of, done_back}
 use Rattle.ride_drawing.specs.declared.Drawn.{Drawn}
 use Rattle.ride_drawing.specs.Draw.{Block}
@@ -23,7 +25,7 @@ fresh_pen_determined κs a r r' x x' p q = p ∙ sym q
 
 -- The answer that a block says.
 drawn_back : (r : Drawn) (out : List ℕ) → ◌≡◌ {A = Drawn} (record { drawing = r.drawing; done = done_of (says_drawn r out).answer }) r
-drawn_back r out = ap (λ (d : Done). record { drawing = r.drawing; done = d }) (done_back r.done)
+drawn_back r out = ap (λ (d : Result Took TraceRefused). record { drawing = r.drawing; done = d }) (done_back r.done)
 
 pub draw_determined : FixedWith 2 draw_kinds.ps draw_kinds.r draw_reads.Post (λ κs x. x.1.1.1.1.0.now)
 draw_determined κs a r r' x x' p q =

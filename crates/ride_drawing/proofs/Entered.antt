@@ -22,7 +22,6 @@ use Rattle.acceptance.specs.Plan.{no_entry}
 use Rattle.ride_drawing.specs.declared.Pen.{Pen}
 use Rattle.ride_drawing.specs.declared.Plan.{Plan}
 use Rattle.ride_drawing.specs.Strip.{edge_of, on_strip, is_further, arrive}
-use Rattle.ride_drawing.specs.Span.{span}
 use Rattle.ride_drawing.specs.Row.{row, is_extra, is_on_the_way, furthest}
 use Rattle.ride_drawing.specs.Element.{Element, plain, mark, extra}
 use Rattle.ride_drawing.specs.Way.{Past, past, way_past}

@@ -1,5 +1,6 @@
 -- The entries of a plan as the code comes by them: one after the other, up to 64.
 -- Assumes nothing.
+use Rattle.std.proofs.Common.{Some, None}
 use Prim.Native.Nat.{ℕ, zero, suc, ◌+◌, ◌≤◌, ◌<◌}
 use native.Mathlib.Omega.{arith}
 use native.Mathlib.Numerals.{add-one}
@@ -18,7 +19,6 @@ use Rattle.ride.specs.declared.Line.{Line}
 use Rattle.ride.specs.declared.Seen.{Seen}
 use Rattle.acceptance.specs.declared.Entry.{Entry}
 use Rattle.acceptance.specs.declared.Acceptance.{Acceptance}
-use Rattle.acceptance.specs.declared.Reported.{Reported}
 use Rattle.acceptance.specs.Plan.{no_entry}
 use Rattle.acceptance.specs.Taking.{planned, is_present}
 use Rattle.acceptance.specs.Report.{report}
@@ -57,12 +57,12 @@ in_both (suc n) (e ∷ l) zero h k = omega arith
 in_both (suc n) (e ∷ l) (suc i) h k = omega (arith, in_both n l i (omega arith) (omega arith))
 
 -- Where an entry is reported it is the next of those that are left;
-reported_by : (s : Acceptance) (i : ℕ) (e : Entry) (b : Bool) → ltb i (length (planned s)) ≡ b → Reported.Entry e ≡ pick b (Reported.Entry (get_or (planned s) i no_entry)) Reported.NoEntry
+reported_by : (s : Acceptance) (i : ℕ) (e : Entry) (b : Bool) → ltb i (length (planned s)) ≡ b → Some e ≡ pick b (Some (get_or (planned s) i no_entry)) None
     → (i < length (planned s)) × (e ≡ get_or (planned s) i no_entry)
 reported_by s i e true more h = (ltb-true i (length (planned s)) more, cc)
 reported_by s i e false more h = cannot_be cc
 
-pub next_entry : (s : Acceptance) (i : ℕ) (e : Entry) → i < 64 → Reported.Entry e ≡ report s i → drop i (row_of s) ≡ e ∷ drop (i + 1) (row_of s)
+pub next_entry : (s : Acceptance) (i : ℕ) (e : Entry) → i < 64 → Some e ≡ report s i → drop i (row_of s) ≡ e ∷ drop (i + 1) (row_of s)
 unfolding report
 next_entry s i e h r =
     let l : List Entry = planned s in
@@ -73,11 +73,11 @@ next_entry s i e h r =
     ∙ ap (λ (k : ℕ). e ∷ drop k (row_of s)) on
 
 -- where none is, none is left;
-unreported_by : (s : Acceptance) (i : ℕ) (b : Bool) → ltb i (length (planned s)) ≡ b → Reported.NoEntry ≡ pick b (Reported.Entry (get_or (planned s) i no_entry)) Reported.NoEntry → length (planned s) ≤ i
+unreported_by : (s : Acceptance) (i : ℕ) (b : Bool) → ltb i (length (planned s)) ≡ b → None ≡ pick b (Some (get_or (planned s) i no_entry)) None → length (planned s) ≤ i
 unreported_by s i true more h = cannot_be cc
 unreported_by s i false more h = ltb-false i (length (planned s)) more
 
-pub no_entry_law : (s : Acceptance) (i : ℕ) → Reported.NoEntry ≡ report s i → drop i (row_of s) ≡ []
+pub no_entry_law : (s : Acceptance) (i : ℕ) → None ≡ report s i → drop i (row_of s) ≡ []
 unfolding report
 no_entry_law s i r =
     let l : List Entry = planned s in

@@ -1,5 +1,6 @@
 -- No title needs an escape: a line is made of words that have none of the marks, and of digits.
 -- Assumes nothing.
+use Rattle.std.proofs.Common.{Option, Some, None}
 use mathlib.Core.Path.{◌≡◌, refl}
 use mathlib.Core.Bool.{Bool, true, false}
 use mathlib.Core.List.{List, ◌++◌}
@@ -24,7 +25,6 @@ use Rattle.telegram.specs.Telegram.{bad_word}
 use Rattle.group_reason.specs.Reason.{Amiss, unreadable, word, balises, bad, opens, figure, Explained, no_reason, because}
 use Rattle.group_reason.specs.Explain.{explain}
 use Rattle.group_reason.specs.Text.{letter, refused_as, badly, balise_at, so_many, reason_text}
-use Rattle.acceptance.specs.declared.Met.{Met}
 use Rattle.acceptance.specs.declared.Entry.{Entry}
 use Rattle.acceptance.specs.Taking.{one_more}
 use Rattle.acceptance_text.specs.Lines.{met_words, entry_line}
@@ -132,10 +132,10 @@ title_safe g l = cut (length (line_text with_reasons g l) - 1) (line_text with_r
 
 -- ---- the row
 
-met_safe : (m : Met) → Safe (met_words m)
+met_safe : (m : Option ℕ) → Safe (met_words m)
 unfolding met_words are_safe
-met_safe Met.Absent = words " absent\n" refl
-met_safe (Met.At place) = join (join (words " met at " refl) (number_of place)) (words "\n" refl)
+met_safe None = words " absent\n" refl
+met_safe (Some place) = join (join (words " met at " refl) (number_of place)) (words "\n" refl)
 
 entry_line_safe : (i : ℕ) (e : Entry) → Safe (entry_line i e)
 unfolding entry_line are_safe

@@ -13,7 +13,8 @@ use Rattle.ride.specs.declared.Known.{Known}
 use Rattle.ride.specs.declared.Line.{Line}
 use Rattle.ride.specs.declared.Lines.{Lines}
 use Rattle.ride.specs.declared.Ride.{Ride}
-use Rattle.ride.specs.declared.trace.Given.{Given}
+use Rattle.std.specs.Prelude.{Result, Ok, Err}
+use Rattle.ride.specs.declared.Wrong.{Wrong}
 use Rattle.ride.specs.State.{is_open_meant}
 use Rattle.ride.specs.Closing.{line_of, close, leave}
 use Rattle.ride.specs.Step.{End, end}
@@ -140,11 +141,11 @@ accepted_size plan pen ride ls closed after =
     )
 
 -- all have room.
-pub step_size : (plan : Plan) (pen : Pen) (ride : Ride) (number : ℕ) (given : Given) (closed : Group) (after : Ride)
+pub step_size : (plan : Plan) (pen : Pen) (ride : Ride) (number : ℕ) (given : Result Lines Wrong) (closed : Group) (after : Ride)
     → length (text_of (draw_step plan pen ride number (says_given given) closed after)) ≤ room_for
 unfolding bytes size
-step_size plan pen ride number (Given.Refused w) closed after = omega (arith, refused_size pen ride.odometer closed (Line.Record number (says_wrong w)))
-step_size plan pen ride number (Given.Lines ls) closed after = omega (arith, accepted_size plan pen ride ls closed after)
+step_size plan pen ride number (Err w) closed after = omega (arith, refused_size pen ride.odometer closed (Line.Record number (says_wrong w)))
+step_size plan pen ride number (Ok ls) closed after = omega (arith, accepted_size plan pen ride ls closed after)
 
 last_size : (pen : Pen) (ride : Ride) → size (last_strip pen ride) ≤ 800
 unfolding last_strip

@@ -1,5 +1,6 @@
 -- Each title is its line: every line ends with a newline, and the title is what stands before it.
 -- Assumes nothing.
+use Rattle.std.proofs.Common.{Option, Some, None}
 use Prim.Native.Nat.{ℕ, ◌-◌}
 use native.Mathlib.Omega.{arith}
 use mathlib.Core.Path.{◌≡◌, refl, sym, ap, ◌∙◌}
@@ -13,7 +14,6 @@ use Rattle.ride.specs.declared.Line.{Line}
 use Rattle.ride.specs.declared.Seen.{Seen}
 use Rattle.ride_text.specs.Style.{with_reasons}
 use Rattle.ride_text.specs.Text.{direction_word, kind_word, mark, number, seen, text_with, why_text, line_text}
-use Rattle.acceptance.specs.declared.Met.{Met}
 use Rattle.acceptance.specs.declared.Entry.{Entry}
 use Rattle.acceptance.specs.declared.Role.{Role}
 use Rattle.acceptance.specs.Taking.{one_more}
@@ -76,10 +76,10 @@ missed closed place = (codes " missed\n", refl)
 
 -- ---- what `accept` writes
 
-entry_ends : (front : List ℕ) (m : Met) → Ends (front ++ met_words m)
+entry_ends : (front : List ℕ) (m : Option ℕ) → Ends (front ++ met_words m)
 unfolding met_words
-entry_ends front Met.Absent = (front ++ codes " absent", sym (append_assoc front (codes " absent") (codes "\n")))
-entry_ends front (Met.At place) = (front ++ (codes " met at " ++ decimal place), sym (append_assoc front (codes " met at " ++ decimal place) (codes "\n")))
+entry_ends front None = (front ++ codes " absent", sym (append_assoc front (codes " absent") (codes "\n")))
+entry_ends front (Some place) = (front ++ (codes " met at " ++ decimal place), sym (append_assoc front (codes " met at " ++ decimal place) (codes "\n")))
 
 reported : (i : ℕ) (e : Entry) → entry_title i e ++ codes "\n" ≡ entry_line i e
 unfolding entry_title entry_line

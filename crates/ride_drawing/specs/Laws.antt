@@ -2,12 +2,13 @@
 -- record adds more than the room that is kept for it. Of places: Places.antt; of titles:
 -- Titles.antt.
 -- Assumes nothing.
-use Rattle.std.specs.Prelude.{ℕ, ◌+◌, ◌≤◌, ◌<◌, ◌≡◌, List, [], ◌∷◌, ◌++◌, eqb, length, get_or}
+use Rattle.std.specs.Prelude.{ℕ, ◌+◌, ◌≤◌, ◌<◌, ◌≡◌, List, [], ◌∷◌, ◌++◌, eqb, length, get_or, Result}
 use Rattle.words.specs.Answer.{pick}
 use Rattle.group.specs.declared.Group.{Group}
 use Rattle.ride.specs.declared.Line.{Line}
 use Rattle.ride.specs.declared.Ride.{Ride}
-use Rattle.ride.specs.declared.trace.Given.{Given}
+use Rattle.ride.specs.declared.Lines.{Lines}
+use Rattle.ride.specs.declared.Wrong.{Wrong}
 use Rattle.ride.specs.Step.{end}
 use Rattle.ride.specs.Says.{says_given}
 use Rattle.ride.specs.Over.{ride_over}
@@ -60,5 +61,5 @@ pub record OneEntry : Type 0 where
 -- No record adds more than the room that is kept for it, whatever it gives, and neither does the
 -- end.
 pub record Bounded : Type 0 where
-  pub step : (plan : Plan) (pen : Pen) (ride : Ride) (number : ℕ) (given : Given) (closed : Group) (after : Ride) → length (text_of (draw_step plan pen ride number (says_given given) closed after)) ≤ room_for
+  pub step : (plan : Plan) (pen : Pen) (ride : Ride) (number : ℕ) (given : Result Lines Wrong) (closed : Group) (after : Ride) → length (text_of (draw_step plan pen ride number (says_given given) closed after)) ≤ room_for
   pub ending : (plan : Plan) (pen : Pen) (ride : Ride) → length (text_of (draw_end plan pen ride)) ≤ room_for

@@ -1,10 +1,9 @@
 -- The row over the strips: the entries of a plan of the test track, met or absent, and the groups
 -- of the ride that are extra.
 -- Assumes nothing.
-use Rattle.std.specs.Prelude.{ℕ, ◌-◌, ◌/◌, Bool, true, false, not, ◌&&◌, ◌||◌, List, [], ◌∷◌, ◌++◌, eqb, leb, length, take}
+use Rattle.std.specs.Prelude.{ℕ, ◌-◌, ◌/◌, Bool, false, not, ◌&&◌, ◌||◌, List, [], ◌∷◌, ◌++◌, eqb, leb, length, take, Option, Some, None}
 use Rattle.text.specs.Text.{codes, decimal}
 use Rattle.ride.specs.declared.Seen.{Seen}
-use Rattle.acceptance.specs.declared.Met.{Met}
 use Rattle.acceptance.specs.declared.Entry.{Entry}
 use Rattle.acceptance.specs.Taking.{planned, is_present, one_more}
 use Rattle.ride_text.specs.Text.{kind_word}
@@ -19,9 +18,9 @@ abbrev pub row : Plan → List Entry
 row plan = take 64 (planned plan.run)
 
 -- The shape of an entry's sign: filled where it was met, hollow where it is absent.
-abbrev pub entry_shape : Met → ℕ
-entry_shape (Met.At place) = 30
-entry_shape Met.Absent = 31
+abbrev pub entry_shape : Option ℕ → ℕ
+entry_shape (Some place) = 30
+entry_shape None = 31
 
 -- The line of the entry with this index as `accept` writes it, without its newline.
 unfoldable pub entry_title : ℕ → Entry → List ℕ
@@ -42,9 +41,9 @@ entry_sign i e edge =
     ++ row_number (on_strip edge e.place) (one_more i)
 
 -- Whether what met an entry is the group at this place.
-abbrev pub is_by : ℕ → Met → Bool
-is_by place Met.Absent = false
-is_by place (Met.At p) = eqb p place
+abbrev pub is_by : ℕ → Option ℕ → Bool
+is_by place None = false
+is_by place (Some p) = eqb p place
 
 -- Whether the group at this place met one of some entries: no two present groups have one place.
 unfoldable pub has_met : ℕ → List Entry → Bool

@@ -31,9 +31,9 @@ mod ticks;
 mod ways;
 
 use acceptance::Acceptance;
-use ride::Ride;
-use ride_text::Done;
-use settings::{Asked, Store};
+use ride::{Ride, TraceRefused};
+use ride_text::Took;
+use settings::Store;
 
 // Where the pen stands: the left edge of its strip in dm, the place up to which what is known has
 // been drawn, whether a strip is open, and how many ticks lie under the next one.
@@ -66,7 +66,7 @@ pub struct Drawing {
 #[derive(Clone, Copy)]
 pub struct Drawn {
     pub drawing: Drawing,
-    pub done: Done,
+    pub done: Result<Took, TraceRefused>,
 }
 
 // A pen before the first strip.
@@ -90,15 +90,15 @@ pub fn draw(plan: Plan, drawing: Drawing, store: Store, trace: &[u8], out: &mut 
 {
     let asked = settings::at(store, 0);
     match asked {
-        Asked::Refused(bad) => Drawn {
+        Err(bad) => Drawn {
             drawing,
-            done: Done::Settings(bad),
+            done: Err(TraceRefused::Settings(bad)),
         },
-        Asked::InForce(held) => {
+        Ok(held) => {
             if trace.len() % 8 != 0 {
                 return Drawn {
                     drawing,
-                    done: Done::Length,
+                    done: Err(TraceRefused::Length),
                 };
             }
             records::over(plan, drawing, store, held, trace, out)

@@ -1,27 +1,26 @@
 // The records of a block, one after the other.
-ghost use Rattle.std.specs.Prelude.{◌≡◌};
+ghost use Rattle.std.specs.Prelude.{◌≡◌, Ok};
 ghost use Rattle.words.specs.Answer.{gives};
 ghost use Rattle.settings.specs.Versions.{kept};
 ghost use Rattle.settings.specs.Store.{judged};
 ghost use Rattle.settings.specs.At.{held_at, gap_at};
 ghost use Rattle.ride.specs.Over.{records};
-ghost use Rattle.ride_text.specs.declared.Done.{Done};
 ghost use Rattle.ride_drawing.specs.Draw.{draw_taken};
 ghost use Rattle.ride_drawing.specs.Says.{says_drawn};
 
 use crate::steps::{pen_after, put_step};
 use crate::{Drawing, Drawn, Pen, Plan};
 use ride::{Reply, Ride};
-use ride_text::Done;
+use ride_text::Took;
 use settings::{Held, Store};
 
 // So many records taken and bytes written, and where the drawing stands then.
 fn took(ride: Ride, number: u64, pen: Pen, records: usize, bytes: usize) -> Drawn
-    ensures { result ≡ record { drawing = record { ride = ride; number = number; pen = pen }; done = Done.Took records bytes } }
+    ensures { result ≡ record { drawing = record { ride = ride; number = number; pen = pen }; done = Ok (record { records = records; bytes = bytes }) } }
 {
     Drawn {
         drawing: Drawing { ride, number, pen },
-        done: Done::Took { records, bytes },
+        done: Ok(Took { records, bytes }),
     }
 }
 
@@ -45,6 +44,7 @@ pub fn over(
     let mut held = first;
     let mut i: usize = 0;
     let mut at: usize = 0;
+    // Stays as it is: a for is no plainer, since the index at the end is the count that is answered.
     while (i < count) & ((out.len() - at >= 524288) & (next < u64::MAX)) {
         held = ride::held_at(store, held, trace, i);
         let treated = ride::treat_at(now, held.gap, trace, i);

@@ -12,19 +12,19 @@ use crate::Plan;
 use crate::places::on_strip;
 use crate::signs::without_newline;
 use crate::spans::put_metres;
-use acceptance::{Entry, Met, Reported};
+use acceptance::Entry;
 use group_rows::Direction;
 use ride::{Line, Seen};
 use ride_text::put_kind;
 use text::{put, put_number};
 
 // The shape of an entry's sign.
-fn entry_shape(met: Met) -> u64
+fn entry_shape(met: Option<u64>) -> u64
     ensures { result ≡ entry_shape met }
 {
     match met {
-        Met::At(_) => 30,
-        Met::Absent => 31,
+        Some(_) => 30,
+        None => 31,
     }
 }
 
@@ -61,12 +61,12 @@ pub fn put_entry(i: usize, entry: Entry, edge: u64, buf: &mut [u8], at: usize) -
 }
 
 // Whether what met an entry is the group at this place.
-fn is_by(place: u64, met: Met) -> bool
+fn is_by(place: u64, met: Option<u64>) -> bool
     ensures { result ≡ is_by place met }
 {
     match met {
-        Met::Absent => false,
-        Met::At(p) => p == place,
+        None => false,
+        Some(p) => p == place,
     }
 }
 
@@ -76,15 +76,12 @@ fn has_met(plan: Plan, place: u64) -> bool
 {
     let run = plan.run;
     let mut found = false;
-    let mut i: usize = 0;
-    while i < 64 {
-        let reported = acceptance::report(run, i);
-        let Reported::Entry(entry) = reported else {
+    for i in 0..64usize {
+        let Some(entry) = acceptance::report(run, i) else {
             break;
         };
         let met = entry.met;
         found = found | is_by(place, met);
-        i += 1;
     }
     found
 }

@@ -15,7 +15,7 @@ use crate::ticks::{one_tick, put_refused, ticked, ticks_at};
 use crate::ways::{pass, put_way_past};
 use crate::{Pen, Plan};
 use group::Group;
-use ride::{Given, Line, Lines, Ride, Wrong};
+use ride::{Line, Lines, Ride, Wrong};
 use text::put;
 
 // The number of a refusal.
@@ -62,7 +62,7 @@ pub fn put_step(
     pen: Pen,
     ride: Ride,
     number: u64,
-    given: Given,
+    given: Result<Lines, Wrong>,
     closed: Group,
     after: Ride,
     buf: &mut [u8],
@@ -71,7 +71,7 @@ pub fn put_step(
     ensures { came result buf.new ≡ puts (pieces (draw_step plan pen ride number (says_given given) closed after)) buf.old at }
 {
     match given {
-        Given::Refused(wrong) => put_refused(
+        Err(wrong) => put_refused(
             pen,
             ride.odometer,
             closed,
@@ -79,17 +79,17 @@ pub fn put_step(
             buf,
             at,
         ),
-        Given::Lines(lines) => put_accepted(plan, pen, ride, lines, closed, after, buf, at),
+        Ok(lines) => put_accepted(plan, pen, ride, lines, closed, after, buf, at),
     }
 }
 
 // The pen after a record.
-pub fn pen_after(pen: Pen, odometer: u32, given: Given, after: Ride) -> Pen
+pub fn pen_after(pen: Pen, odometer: u32, given: Result<Lines, Wrong>, after: Ride) -> Pen
     ensures { result ≡ pen_after pen odometer (says_given given) after }
 {
     match given {
-        Given::Refused(_) => ticked(one_tick(pen.ticks), pen),
-        Given::Lines(lines) => {
+        Err(_) => ticked(one_tick(pen.ticks), pen),
+        Ok(lines) => {
             let last = after_lines(pen, lines, odometer);
             let there = arrive(last, after.odometer as u64, certain(after));
             ticked(ticks_at(pen, odometer, after.odometer), there)

@@ -29,10 +29,8 @@ fn put_figures(km: u64, buf: &mut [u8], at: usize) -> usize
     ensures { came result buf.new ≡ puts (figures km 0 11) buf.old at }
 {
     let mut next = at;
-    let mut i: u64 = 0;
-    while i < 11 {
+    for i in 0..11u64 {
         next = put_figure(km, i, buf, next);
-        i += 1;
     }
     next
 }

@@ -11,7 +11,7 @@ use crate::places::{arrive, is_further};
 use crate::rows::put_entry;
 use crate::strips::put_way;
 use crate::{Pen, Plan};
-use acceptance::{Entry, Reported};
+use acceptance::Entry;
 use ride::Known;
 
 // Where the pen stands after the entries that it came by, and the place after what was put.
@@ -70,16 +70,13 @@ pub fn pass(
     let run = plan.run;
     let mut now = pen;
     let mut next = at;
-    let mut i: usize = 0;
-    while i < 64 {
-        let reported = acceptance::report(run, i);
-        let Reported::Entry(entry) = reported else {
+    for i in 0..64usize {
+        let Some(entry) = acceptance::report(run, i) else {
             break;
         };
         let went = come_by(pen, i, entry, place, until, known, now, buf, next);
         now = went.pen;
         next = went.next;
-        i += 1;
     }
     Went { pen: now, next }
 }

@@ -21,7 +21,7 @@ use Rattle.ride.specs.Record.{odometer_of}
 use Rattle.ride.specs.Step.{Step, treat}
 use Rattle.ride.specs.Over.{records}
 use Rattle.ride.proofs.Cutting.{records_length}
-use Rattle.ride_text.specs.declared.Done.{Done}
+use Rattle.std.specs.Prelude.{Ok}
 use Rattle.ride_text.specs.Says.{says_done}
 use Rattle.ride_text.proofs.Determined as listing_is
 use Rattle.ride_drawing.specs.declared.Pen.{Pen}
@@ -109,10 +109,10 @@ module _ (plan : Plan) (store : Store) (good : Good store) where
       drawn_is plan d store c.block c.before c.answer c.after call
       ∙ sym (draw_taken_law plan d store c.block c.before good (eq-eqb (length c.block % 8) 0 (eights c.block whole)))
 
-  pub done_is : (d : Drawing) (c : Call Drawn) → Whole c.block → DrawCall plan store d c → c.answer.done ≡ Done.Took (many d c) (length (text d (many d c) c))
+  pub done_is : (d : Drawing) (c : Call Drawn) → Whole c.block → DrawCall plan store d c → c.answer.done ≡ Ok (record { records = many d c; bytes = length (text d (many d c) c) })
   unfolding draw_of
   done_is d c whole call =
-      told says_done listing_is.done_of listing_is.done_back c.answer.done (Done.Took (many d c) (length (text d (many d c) c))) (ap (λ (b : Block). b.answer) (is d c whole call)) refl
+      told says_done listing_is.done_of listing_is.done_back c.answer.done (Ok (record { records = many d c; bytes = length (text d (many d c) c) })) (ap (λ (b : Block). b.answer) (is d c whole call)) refl
 
   -- some records drawn
   abbrev drawing : Drawing → List (List ℕ) → Gone Drawing

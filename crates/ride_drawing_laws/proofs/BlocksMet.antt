@@ -13,7 +13,7 @@ use Rattle.settings.specs.declared.Store.{Store}
 use Rattle.settings.specs.At.{gap_at}
 use Rattle.ride.specs.Over.{records}
 use Rattle.ride.proofs.Cutting.{records_length}
-use Rattle.ride_text.specs.declared.Done.{Done}
+use Rattle.std.specs.Prelude.{Ok}
 use Rattle.ride_drawing.specs.declared.Plan.{Plan}
 use Rattle.ride_drawing.specs.declared.Drawing.{Drawing}
 use Rattle.ride_drawing.specs.declared.Drawn.{Drawn}
@@ -43,7 +43,7 @@ module _ (plan : Plan) (store : Store) (good : Good store) (room : List ℕ) (wi
       record {
         block = block;
         before = room;
-        answer = record { drawing = (drawn d block).drawing; done = Done.Took (many d block) (length (text_of p.elements)) };
+        answer = record { drawing = (drawn d block).drawing; done = Ok (record { records = many d block; bytes = length (text_of p.elements) }) };
         after = (drawn d block).out;
       }
 

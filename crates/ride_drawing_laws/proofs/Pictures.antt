@@ -11,7 +11,8 @@ use Rattle.words.specs.Answer.{refuses}
 use Rattle.settings.specs.declared.Store.{Store}
 use Rattle.settings.specs.At.{gap_at}
 use Rattle.ride.specs.Over.{records}
-use Rattle.ride_text.specs.declared.Done.{Done}
+use Rattle.std.specs.Prelude.{Err}
+use Rattle.ride.specs.declared.TraceRefused.{TraceRefused}
 use Rattle.ride_text.specs.Says.{says_done}
 use Rattle.ride_drawing.specs.declared.Plan.{Plan}
 use Rattle.ride_drawing.specs.declared.Drawing.{Drawing}
@@ -58,7 +59,7 @@ such_call : (plan : Plan) (d : Drawing) (store : Store) (block before : List ℕ
     → (r : Drawn) × DrawInto plan d store block before r before × (says_done r.done ≡ refuses 16)
 unfolding bad_length
 such_call plan d store block before good bad = (
-  record { drawing = d; done = Done.Length },
+  record { drawing = d; done = Err TraceRefused.Length },
   (
     ([], ([], tt)),
     lent block,

@@ -7,9 +7,10 @@ use Prim.Native.Nat.{ℕ}
 use lib.Dec.{eqb}
 use Rattle.words.specs.Answer.{Outcome, gives, refuses, pick}
 use Rattle.text.specs.Put.{Put, came}
-use Rattle.settings.specs.declared.Bad.{Bad}
-use Rattle.settings.proofs.Determined.{bad_of}
-use Rattle.ride_text.specs.declared.Done.{Done}
+use Rattle.ride_text.specs.declared.Took.{Took}
+use Rattle.ride.specs.declared.TraceRefused.{TraceRefused}
+use Rattle.ride.proofs.Determined.{trace_refused_of, trace_refused_back}
+use Rattle.std.specs.Prelude.{Result, Ok, Err}
 use Rattle.ride_text.specs.declared.Listed.{Listed}
 use Rattle.ride_text.specs.List.{Taken, Listing}
 use Rattle.ride_text.specs.Says.{says_done, says_listed}
@@ -26,24 +27,19 @@ use Rattle.ride_text.proofs.list.Reads as list_reads
 use Rattle.words.proofs.Told.{FixedWith}
 
 -- From what an answer says, the answer.
-abbrev pub done_of : Outcome Taken → Done
-done_of (gives t) = Done.Took t.records t.bytes
-done_of (refuses n) = pick (eqb n 16) Done.Length (Done.Settings (bad_of n))
+abbrev pub done_of : Outcome Taken → Result Took TraceRefused
+done_of (gives t) = Ok (record { records = t.records; bytes = t.bytes })
+done_of (refuses n) = Err (trace_refused_of n)
 
-pub done_back : (d : Done) → done_of (says_done d) ≡ d
-done_back (Done.Took records bytes) = refl
-done_back (Done.Settings Bad.Pair) = refl
-done_back (Done.Settings Bad.Gap) = refl
-done_back (Done.Settings Bad.TooHigh) = refl
-done_back (Done.Settings Bad.NotAbove) = refl
-done_back (Done.Settings Bad.Full) = refl
-done_back Done.Length = refl
+pub done_back : (d : Result Took TraceRefused) → done_of (says_done d) ≡ d
+done_back (Ok t) = refl
+done_back (Err r) = ap Err (trace_refused_back r)
 
 abbrev pub listed_of : Listing → Listed
 listed_of l = record { ride = l.ride; number = l.number; done = done_of l.answer }
 
 pub listed_back : (r : Listed) (out : List ℕ) → listed_of (says_listed r out) ≡ r
-listed_back r out = ap (λ (d : Done). record { ride = r.ride; number = r.number; done = d }) (done_back r.done)
+listed_back r out = ap (λ (d : Result Took TraceRefused). record { ride = r.ride; number = r.number; done = d }) (done_back r.done)
 
 -- what two puts of one text have alike
 same_put : (n n' : ℕ) (b b' : List ℕ) → came n b ≡ came n' b' → (n ≡ n') × (b ≡ b')

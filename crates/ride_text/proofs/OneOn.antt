@@ -8,7 +8,9 @@ use mathlib.Core.Bool.{true}
 use mathlib.Core.List.{List}
 use lib.ListN.{length}
 use Rattle.ride.specs.declared.Ride.{Ride}
-use Rattle.ride.specs.declared.trace.Given.{Given}
+use Rattle.std.specs.Prelude.{Result}
+use Rattle.ride.specs.declared.Lines.{Lines}
+use Rattle.ride.specs.declared.Wrong.{Wrong}
 use Rattle.group.specs.declared.Group.{Group}
 use Rattle.ride.specs.Record.{odometer_of}
 use Rattle.ride.specs.Step.{Step, treat}
@@ -35,7 +37,7 @@ module _ (style : Style) (gaps : ℕ → ℕ) (ride : Ride) (number i at : ℕ) 
 
   -- Its step, by which some group closed, leaves this ride; its lines end at m in the buffer
   -- `out'`.
-  pub one_on : (given : Given) (closed : Group) (ride' : Ride) (m : ℕ) (out' : List ℕ) → i < length trace / 8
+  pub one_on : (given : Result Lines Wrong) (closed : Group) (ride' : Ride) (m : ℕ) (out' : List ℕ) → i < length trace / 8
       → ◌≡◌ {A = Step} (record { lines = says_given given; closed = closed; ride = ride' }) (treat ride (gaps (odometer_of r)) r)
       → is_taken style number (length out - at) ≡ true
       → at + room_for style ≤ length out

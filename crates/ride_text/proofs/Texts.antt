@@ -13,7 +13,8 @@ use Rattle.text.proofs.Standing.{numbered, was_put}
 use Rattle.group.specs.declared.Group.{Group}
 use Rattle.ride.specs.declared.Line.{Line}
 use Rattle.ride.specs.declared.Lines.{Lines}
-use Rattle.ride.specs.declared.trace.Given.{Given}
+use Rattle.std.specs.Prelude.{Result, Ok, Err}
+use Rattle.ride.specs.declared.Wrong.{Wrong}
 use Rattle.ride.specs.Over.{lines_for}
 use Rattle.ride.specs.Says.{says_wrong, says_lines, says_given}
 use Rattle.ride_text.specs.Style.{Style, plain}
@@ -79,6 +80,6 @@ module _ (style : Style) (g : Group) where
   lines_short (Lines.One l) = one_short l
   lines_short (Lines.Two l m) = omega (arith, line_length style g l, line_length style g m, halves style, length-append (line_text style g l) (line_text style g m), ap length (two_is l m))
 
-  pub given_short : (number : ℕ) (given : Given) → length (lines_text style g (lines_for number (says_given given))) ≤ room_for style
-  given_short number (Given.Refused w) = one_short (Line.Record number (says_wrong w))
-  given_short number (Given.Lines ls) = lines_short ls
+  pub given_short : (number : ℕ) (given : Result Lines Wrong) → length (lines_text style g (lines_for number (says_given given))) ≤ room_for style
+  given_short number (Err w) = one_short (Line.Record number (says_wrong w))
+  given_short number (Ok ls) = lines_short ls

@@ -19,8 +19,8 @@ mod records;
 
 use group::Group;
 use group_rows::Kind;
-use ride::{Line, Ride};
-use settings::{Asked, Bad, Store};
+use ride::{Line, Ride, TraceRefused};
+use settings::Store;
 
 // How lines are written: as document 01 has them,
 pub const PLAIN: bool = false;
@@ -28,21 +28,20 @@ pub const PLAIN: bool = false;
 // or each fault line with its reason after a colon.
 pub const REASONS: bool = true;
 
-// How a listing went: so many records taken and bytes written, or refused for the settings (their
-// number) or the trace's length (16).
+// What a listing took: so many records taken, and bytes written.
 #[derive(Clone, Copy)]
-pub enum Done {
-    Took { records: usize, bytes: usize },
-    Settings(Bad),
-    Length,
+pub struct Took {
+    pub records: usize,
+    pub bytes: usize,
 }
 
-// What a listing answers: the state after it, the next record's number, and how it went.
+// What a listing answers: the state after it, the next record's number, and what it took, or why
+// nothing.
 #[derive(Clone, Copy)]
 pub struct Listed {
     pub ride: Ride,
     pub number: u64,
-    pub done: Done,
+    pub done: Result<Took, TraceRefused>,
 }
 
 // The word for a kind, after its space, into buf from `at` on, all other bytes as they were, and
@@ -108,17 +107,17 @@ pub fn list(
 {
     let asked = settings::at(store, 0);
     match asked {
-        Asked::Refused(bad) => Listed {
+        Err(bad) => Listed {
             ride,
             number,
-            done: Done::Settings(bad),
+            done: Err(TraceRefused::Settings(bad)),
         },
-        Asked::InForce(held) => {
+        Ok(held) => {
             if trace.len() % 8 != 0 {
                 return Listed {
                     ride,
                     number,
-                    done: Done::Length,
+                    done: Err(TraceRefused::Length),
                 };
             }
             records::over(reasons, ride, store, held, number, trace, out)

@@ -12,9 +12,9 @@ ghost use Rattle.ride_text.specs.List.{room_for, list_taken};
 ghost use Rattle.ride_text.specs.Says.{says_listed};
 
 use crate::lines::put_text;
-use crate::{Done, Listed};
+use crate::{Listed, Took};
 use group::Group;
-use ride::{Given, Line, Lines, Reply, Ride, Wrong};
+use ride::{Line, Lines, Reply, Ride, Wrong};
 use settings::{Held, Store};
 
 // The number of a refusal.
@@ -59,7 +59,7 @@ fn put_given(
     reasons: bool,
     number: u64,
     closed: Group,
-    given: Given,
+    given: Result<Lines, Wrong>,
     out: &mut [u8],
     at: usize,
 ) -> usize
@@ -67,7 +67,7 @@ fn put_given(
     ensures { came result out.new ≡ put (lines_text reasons closed (lines_for number (says_given given))) out.old at }
 {
     match given {
-        Given::Refused(wrong) => {
+        Err(wrong) => {
             put_text(
                 reasons,
                 closed,
@@ -76,7 +76,7 @@ fn put_given(
                 at,
             )
         }
-        Given::Lines(lines) => put_lines(reasons, closed, lines, out, at),
+        Ok(lines) => put_lines(reasons, closed, lines, out, at),
     }
 }
 
@@ -118,6 +118,6 @@ pub fn over(
     Listed {
         ride: now,
         number: next,
-        done: Done::Took { records, bytes },
+        done: Ok(Took { records, bytes }),
     }
 }

@@ -8,8 +8,7 @@
 
 mod page;
 
-use console::{PairAsked, Source, System};
-use telegram::Pair;
+use console::{Source, System};
 
 // The argument of the line's file.
 const FILE: usize = 1;
@@ -47,7 +46,7 @@ fn draw(rt: &impl System, file: &mut Source, s: u8, t: u8) {
 
 // The line named, if the sync pair is good.
 fn open(rt: &impl System, s: u8, t: u8) {
-    let Pair::Good = telegram::good_pair(s, t) else {
+    let Ok(()) = telegram::good_pair(s, t) else {
         console::refuse_here(rt, b"scope", 4);
         return;
     };
@@ -63,7 +62,7 @@ fn main(rt: HostRuntime) {
         console::usage(&rt, b"scope", b"scope FILE S S*");
         return;
     }
-    if let PairAsked::Is(s, t) = console::sync_pair(&rt, b"scope", 2) {
+    if let Ok((s, t)) = console::sync_pair(&rt, b"scope", 2) {
         open(&rt, s, t);
     }
 }

@@ -5,11 +5,9 @@ use Prim.Native.Nat.{ℕ}
 use lib.Dec.{eqb}
 use Rattle.words.specs.Answer.{Outcome, gives, refuses, pick}
 use Rattle.settings.specs.declared.Bad.{Bad}
-use Rattle.settings.specs.declared.Verdict.{Verdict}
 use Rattle.settings.specs.declared.Begun.{Begun}
 use Rattle.settings.specs.declared.Added.{Added}
 use Rattle.settings.specs.declared.Held.{Held}
-use Rattle.settings.specs.declared.Asked.{Asked}
 use Rattle.settings.specs.Versions.{Kept}
 use Rattle.settings.specs.Store.{Change}
 use Rattle.settings.specs.Says.{says_bad, says_verdict, says_begun, says_added, says_asked}
@@ -24,6 +22,7 @@ use Rattle.settings.proofs.at.Reads as at_reads
 use Rattle.settings.proofs.places.leaves.Kinds as leaves_kinds
 use Rattle.settings.proofs.places.leaves.Reads as leaves_reads
 use Rattle.words.proofs.Told.{Fixed}
+use Rattle.std.specs.Prelude.{Result, Ok, Err}
 
 -- From what an answer says, the answer.
 abbrev pub bad_of : ℕ → Bad
@@ -41,33 +40,33 @@ bad_back Bad.TooHigh = refl
 bad_back Bad.NotAbove = refl
 bad_back Bad.Full = refl
 
-abbrev pub verdict_of : Outcome Kept → Verdict
-verdict_of (gives k) = Verdict.Kept
-verdict_of (refuses n) = Verdict.Refused (bad_of n)
+abbrev pub verdict_of : Outcome Kept → Result (Unit {0}) Bad
+verdict_of (gives k) = Ok tt
+verdict_of (refuses n) = Err (bad_of n)
 
-pub verdict_back : (v : Verdict) → verdict_of (says_verdict v) ≡ v
-verdict_back Verdict.Kept = refl
-verdict_back (Verdict.Refused b) = ap Verdict.Refused (bad_back b)
+pub verdict_back : (v : Result (Unit {0}) Bad) → verdict_of (says_verdict v) ≡ v
+verdict_back (Ok tt) = refl
+verdict_back (Err b) = ap Err (bad_back b)
 
 abbrev pub begun_of : Change → Begun
 begun_of c = record { store = c.store; verdict = verdict_of c.answer }
 
 pub begun_back : (b : Begun) → begun_of (says_begun b) ≡ b
-begun_back b = ap (λ (v : Verdict). record { store = b.store; verdict = v }) (verdict_back b.verdict)
+begun_back b = ap (λ (v : Result (Unit {0}) Bad). record { store = b.store; verdict = v }) (verdict_back b.verdict)
 
 abbrev pub added_of : Change → Added
 added_of c = record { store = c.store; verdict = verdict_of c.answer }
 
 pub added_back : (a : Added) → added_of (says_added a) ≡ a
-added_back a = ap (λ (v : Verdict). record { store = a.store; verdict = v }) (verdict_back a.verdict)
+added_back a = ap (λ (v : Result (Unit {0}) Bad). record { store = a.store; verdict = v }) (verdict_back a.verdict)
 
-abbrev pub asked_of : Outcome Held → Asked
-asked_of (gives held) = Asked.InForce held
-asked_of (refuses n) = Asked.Refused (bad_of n)
+abbrev pub asked_of : Outcome Held → Result Held Bad
+asked_of (gives held) = Ok held
+asked_of (refuses n) = Err (bad_of n)
 
-pub asked_back : (a : Asked) → asked_of (says_asked a) ≡ a
-asked_back (Asked.InForce held) = refl
-asked_back (Asked.Refused b) = ap Asked.Refused (bad_back b)
+pub asked_back : (a : Result Held Bad) → asked_of (says_asked a) ≡ a
+asked_back (Ok held) = refl
+asked_back (Err b) = ap Err (bad_back b)
 
 pub allowed_determined : Fixed 0 allowed_kinds.ps allowed_kinds.r allowed_reads.Post
 allowed_determined κs a r r' x x' p q = p ∙ sym q

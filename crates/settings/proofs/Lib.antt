@@ -1,3 +1,4 @@
+pub mod Handed
 pub mod Walking
 pub mod Counts
 pub mod Following

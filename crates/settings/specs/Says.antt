@@ -1,13 +1,11 @@
 -- The numbers of the documents for each case of this crate's answers.
 -- Assumes nothing.
-use Rattle.std.specs.Prelude.{ℕ}
+use Rattle.std.specs.Prelude.{ℕ, Result, Ok, Err}
 use Rattle.words.specs.Answer.{Outcome, gives, refuses}
 use Rattle.settings.specs.declared.Bad.{Bad}
-use Rattle.settings.specs.declared.Verdict.{Verdict}
 use Rattle.settings.specs.declared.Begun.{Begun}
 use Rattle.settings.specs.declared.Added.{Added}
 use Rattle.settings.specs.declared.Held.{Held}
-use Rattle.settings.specs.declared.Asked.{Asked}
 use Rattle.settings.specs.Versions.{Kept, kept}
 use Rattle.settings.specs.Store.{Change}
 
@@ -21,9 +19,9 @@ says_bad Bad.NotAbove = 24
 says_bad Bad.Full = 25
 
 -- Kept, or the number of a refusal.
-abbrev pub says_verdict : Verdict → Outcome Kept
-says_verdict Verdict.Kept = gives kept
-says_verdict (Verdict.Refused bad) = refuses (says_bad bad)
+abbrev pub says_verdict : Result (Unit {0}) Bad → Outcome Kept
+says_verdict (Ok done) = gives kept
+says_verdict (Err bad) = refuses (says_bad bad)
 
 -- An opened store: how it went, and the store.
 abbrev pub says_begun : Begun → Change
@@ -34,6 +32,6 @@ abbrev pub says_added : Added → Change
 says_added a = record { answer = says_verdict a.verdict; store = a.store }
 
 -- The version in force, or the number of a refusal.
-abbrev pub says_asked : Asked → Outcome Held
-says_asked (Asked.InForce held) = gives held
-says_asked (Asked.Refused bad) = refuses (says_bad bad)
+abbrev pub says_asked : Result Held Bad → Outcome Held
+says_asked (Ok held) = gives held
+says_asked (Err bad) = refuses (says_bad bad)

@@ -6,67 +6,51 @@ ghost use Rattle.settings.specs.Says.{says_verdict};
 
 use crate::places::last_place;
 use crate::versions::{follows, settings_of};
-use crate::{Bad, Store, Verdict, Version};
+use crate::{Bad, Store, Version};
 
 // Whether each version after the first, which is in force from 0 on, may follow the one before.
-fn all_follow(versions: [Version; 32], count: usize) -> Verdict
+fn all_follow(versions: [Version; 32], count: usize) -> Result<(), Bad>
     requires { (1 ≤ count) × (count ≤ 32) }
     ensures { says_verdict result ≡ all_follow 0 (drop 1 (take count versions)) }
 {
     let mut last: u32 = 0;
-    let mut i: usize = 1;
-    while i < count {
+    for i in 1..count {
         let version = versions[i];
-        let verdict = follows(last, version);
-        if let Verdict::Refused(bad) = verdict {
-            return Verdict::Refused(bad);
-        }
+        follows(last, version)?;
         last = version.place;
-        i += 1;
     }
-    Verdict::Kept
+    Ok(())
 }
 
 // The judgement of a store: 25 for its count, 19 where it is empty, 24 for its first place, then
 // its versions one by one.
-pub fn judge(store: Store) -> Verdict
+pub fn judge(store: Store) -> Result<(), Bad>
     ensures { says_verdict result ≡ judged store }
 {
     let count = store.count;
     if count > 32 {
-        return Verdict::Refused(Bad::Full);
+        return Err(Bad::Full);
     }
     if count == 0 {
-        return Verdict::Refused(Bad::Gap);
+        return Err(Bad::Gap);
     }
     let versions = store.versions;
     let first = versions[0];
     if first.place != 0 {
-        return Verdict::Refused(Bad::NotAbove);
+        return Err(Bad::NotAbove);
     }
-    let verdict = settings_of(first.gap, first.s, first.t);
-    match verdict {
-        Verdict::Refused(bad) => Verdict::Refused(bad),
-        Verdict::Kept => all_follow(versions, count),
-    }
+    settings_of(first.gap, first.s, first.t)?;
+    all_follow(versions, count)
 }
 
 // Whether a version is added: the store's own refusal, the version's, and 25 for a 33rd.
-pub fn may_add(store: Store, version: Version) -> Verdict
+pub fn may_add(store: Store, version: Version) -> Result<(), Bad>
     ensures { says_verdict result ≡ may_add store version }
 {
-    let own = judge(store);
-    if let Verdict::Refused(bad) = own {
-        return Verdict::Refused(bad);
+    judge(store)?;
+    follows(last_place(store), version)?;
+    if store.count < 32 {
+        return Ok(());
     }
-    let verdict = follows(last_place(store), version);
-    match verdict {
-        Verdict::Refused(bad) => Verdict::Refused(bad),
-        Verdict::Kept => {
-            if store.count < 32 {
-                return Verdict::Kept;
-            }
-            Verdict::Refused(Bad::Full)
-        }
-    }
+    Err(Bad::Full)
 }

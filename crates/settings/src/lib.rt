@@ -39,7 +39,7 @@ pub struct Store {
 }
 
 // Why a version, a store or a place is refused: 4, 19, 18, 24 and 25 in this order.
-#[derive(Clone, Copy)]
+#[derive(Clone, Copy, PartialEq, Eq)]
 pub enum Bad {
     Pair,
     Gap,
@@ -48,18 +48,11 @@ pub enum Bad {
     Full,
 }
 
-// A judgement: kept, or why it is refused.
-#[derive(Clone, Copy)]
-pub enum Verdict {
-    Kept,
-    Refused(Bad),
-}
-
 // What opening a store answers: the store, and how it went. Refused, its store has count 0.
 #[derive(Clone, Copy)]
 pub struct Begun {
     pub store: Store,
-    pub verdict: Verdict,
+    pub verdict: Result<(), Bad>,
 }
 
 // What adding a version answers: the store after it, and how it went. Refused, it is the store as
@@ -67,7 +60,7 @@ pub struct Begun {
 #[derive(Clone, Copy)]
 pub struct Added {
     pub store: Store,
-    pub verdict: Verdict,
+    pub verdict: Result<(), Bad>,
 }
 
 // The settings in force at a place, with the places from which and until which they are: `until` is
@@ -82,31 +75,24 @@ pub struct Held {
     pub until: u32,
 }
 
-// What asking for a place answers: the settings in force there, or why it is refused.
-#[derive(Clone, Copy)]
-pub enum Asked {
-    InForce(Held),
-    Refused(Bad),
-}
-
 // A store with its first version, at place 0; or 4, then 19, and a store with count 0.
 pub fn begin(gap: u32, s: u8, t: u8) -> Begun
     ensures { says_begun result ≡ begin gap s t }
 {
     let verdict = versions::settings_of(gap, s, t);
     match verdict {
-        Verdict::Kept => Begun {
+        Ok(()) => Begun {
             store: places::opened(Version {
                 place: 0,
                 gap,
                 s,
                 t,
             }),
-            verdict: Verdict::Kept,
+            verdict: Ok(()),
         },
-        Verdict::Refused(bad) => Begun {
+        Err(bad) => Begun {
             store: places::no_store(),
-            verdict: Verdict::Refused(bad),
+            verdict: Err(bad),
         },
     }
 }
@@ -119,30 +105,25 @@ pub fn add(store: Store, place: u32, gap: u32, s: u8, t: u8) -> Added
     let version = Version { place, gap, s, t };
     let verdict = judging::may_add(store, version);
     match verdict {
-        Verdict::Kept => Added {
+        Ok(()) => Added {
             store: places::with_one(store, version),
-            verdict: Verdict::Kept,
+            verdict: Ok(()),
         },
-        Verdict::Refused(bad) => Added {
+        Err(bad) => Added {
             store,
-            verdict: Verdict::Refused(bad),
+            verdict: Err(bad),
         },
     }
 }
 
 // The settings in force at a place, with the places from which and until which they are; or the
 // store's own refusal, then 18.
-pub fn at(store: Store, place: u32) -> Asked
+pub fn at(store: Store, place: u32) -> Result<Held, Bad>
     ensures { says_asked result ≡ asked store place }
 {
-    let own = judging::judge(store);
-    match own {
-        Verdict::Refused(bad) => Asked::Refused(bad),
-        Verdict::Kept => {
-            if place > 4000000000 {
-                return Asked::Refused(Bad::TooHigh);
-            }
-            Asked::InForce(places::in_force(store, place))
-        }
+    judging::judge(store)?;
+    if place > 4000000000 {
+        return Err(Bad::TooHigh);
     }
+    Ok(places::in_force(store, place))
 }

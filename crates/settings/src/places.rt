@@ -79,14 +79,12 @@ pub fn in_force(store: Store, place: u32) -> Held
     let versions = store.versions;
     let count = store.count;
     let mut now = versions[0];
-    let mut i: usize = 1;
-    while i < count {
+    for i in 1..count {
         let next = versions[i];
         if place < next.place {
             return holds(now, next.place);
         }
         now = next;
-        i += 1;
     }
     holds(now, 4000000001)
 }

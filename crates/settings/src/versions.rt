@@ -3,8 +3,8 @@ ghost use Rattle.std.specs.Prelude.{◌≡◌};
 ghost use Rattle.settings.specs.Versions.{allowed, settings_of, follows};
 ghost use Rattle.settings.specs.Says.{says_verdict};
 
-use crate::{Bad, Verdict, Version};
-use telegram::Pair;
+use crate::{Bad, Version};
+use telegram::NotSeven;
 
 // Whether a gap is allowed: exactly from 1 to 200.
 pub fn allowed(gap: u32) -> bool
@@ -14,36 +14,31 @@ pub fn allowed(gap: u32) -> bool
 }
 
 // Whether settings are good: 4 for the sync pair, then 19 for the gap.
-pub fn settings_of(gap: u32, s: u8, t: u8) -> Verdict
+pub fn settings_of(gap: u32, s: u8, t: u8) -> Result<(), Bad>
     ensures { says_verdict result ≡ settings_of gap s t }
 {
     match telegram::good_pair(s, t) {
-        Pair::NotSeven => Verdict::Refused(Bad::Pair),
-        Pair::Good => {
+        Err(NotSeven) => Err(Bad::Pair),
+        Ok(()) => {
             if allowed(gap) {
-                return Verdict::Kept;
+                return Ok(());
             }
-            Verdict::Refused(Bad::Gap)
+            Err(Bad::Gap)
         }
     }
 }
 
 // Whether a version may follow one that is in force from `last` on: 4 and 19 for its settings, 18
 // for its place, 24 where that is not above.
-pub fn follows(last: u32, version: Version) -> Verdict
+pub fn follows(last: u32, version: Version) -> Result<(), Bad>
     ensures { says_verdict result ≡ follows last version }
 {
-    let verdict = settings_of(version.gap, version.s, version.t);
-    match verdict {
-        Verdict::Refused(bad) => Verdict::Refused(bad),
-        Verdict::Kept => {
-            if version.place > 4000000000 {
-                return Verdict::Refused(Bad::TooHigh);
-            }
-            if version.place <= last {
-                return Verdict::Refused(Bad::NotAbove);
-            }
-            Verdict::Kept
-        }
+    settings_of(version.gap, version.s, version.t)?;
+    if version.place > 4000000000 {
+        return Err(Bad::TooHigh);
     }
+    if version.place <= last {
+        return Err(Bad::NotAbove);
+    }
+    Ok(())
 }

@@ -2,17 +2,11 @@
 ghost use Rattle.std.specs.Prelude.{◌≡◌};
 ghost use Rattle.settings_text.specs.Line.{word_at, figure_of, version, stated};
 
-use figures::Byte;
-use lines::{Number, TextLine};
-
-// A place or a gap of a line, or none.
-#[derive(Clone, Copy)]
-enum Decimetres {
-    Is(u32),
-    Odd,
-}
+use figures::NotFigure;
+use lines::{TextLine, Word};
 
 // What a line states: nothing, a version, or it is unreadable.
+// Stays as it is: a `Result<Option<..>, ..>` is no plainer, since a line has three plain ends.
 #[derive(Clone, Copy)]
 pub enum Stated {
     Nothing,
@@ -21,30 +15,30 @@ pub enum Stated {
 }
 
 // A number as a place or a gap; the largest of 32 bits stands for all above it.
-fn figure_of(number: Number) -> Decimetres
+fn figure_of(number: Result<u32, NotFigure>) -> Option<u32>
     ensures { result ≡ figure_of number }
 {
     match number {
-        Number::Is(n) => Decimetres::Is(n),
-        Number::Above => Decimetres::Is(4294967295),
-        Number::Odd => Decimetres::Odd,
+        Ok(n) => Some(n),
+        Err(NotFigure::Above) => Some(4294967295),
+        Err(NotFigure::Odd) => None,
     }
 }
 
 // Four words as a version.
-fn version_of(place: Decimetres, gap: Decimetres, s: Byte, t: Byte) -> Stated
+fn version_of(place: Option<u32>, gap: Option<u32>, s: Option<u8>, t: Option<u8>) -> Stated
     ensures { result ≡ version place gap s t }
 {
-    let Decimetres::Is(place) = place else {
+    let Some(place) = place else {
         return Stated::Unreadable;
     };
-    let Decimetres::Is(gap) = gap else {
+    let Some(gap) = gap else {
         return Stated::Unreadable;
     };
-    let Byte::Is(s) = s else {
+    let Some(s) = s else {
         return Stated::Unreadable;
     };
-    let Byte::Is(t) = t else {
+    let Some(t) = t else {
         return Stated::Unreadable;
     };
     Stated::Version { place, gap, s, t }
@@ -54,7 +48,7 @@ fn version_of(place: Decimetres, gap: Decimetres, s: Byte, t: Byte) -> Stated
 fn four(line: TextLine) -> Stated
     ensures { result ≡ version (figure_of (word_at line 0).number) (figure_of (word_at line 1).number) (word_at line 2).byte (word_at line 3).byte }
 {
-    let words = line.words;
+    let words: &[Word] = &line.words;
     let first = words[0];
     let second = words[1];
     let third = words[2];

@@ -6,7 +6,7 @@ ghost use Rattle.settings_text.specs.Taking.{after_it, given};
 ghost use Rattle.settings_text.specs.Sheet.{ended};
 
 use crate::{Condition, Sheet, Taken, bad};
-use settings::{Bad, Store, Verdict, Version};
+use settings::{Bad, Store, Version};
 
 // A place of a store that no version has taken.
 const NO_VERSION: Version = Version {
@@ -40,15 +40,15 @@ fn number_of(bad: Bad) -> u8
 }
 
 // What a version leaves: the store after it, or the one before it with the refusal's number.
-fn after_it(verdict: Verdict, old: Store, new: Store) -> Taken
+fn after_it(verdict: Result<(), Bad>, old: Store, new: Store) -> Taken
     ensures { result ≡ after_it (says_verdict verdict) old new }
 {
     match verdict {
-        Verdict::Kept => Taken {
+        Ok(()) => Taken {
             store: new,
             how: Condition::Fine,
         },
-        Verdict::Refused(bad) => Taken {
+        Err(bad) => Taken {
             store: old,
             how: Condition::Refused(number_of(bad)),
         },

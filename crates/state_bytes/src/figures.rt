@@ -26,11 +26,9 @@ pub fn spread(figures: &[u64], bytes: &mut [u8])
     ensures bytes_after { bytes.new ≡ spread (length bytes.old) figures.now }
     ensures by_index { (i : ℕ) → i < length bytes.old / 8 → figure_at_meant bytes.new i ≡ get_or figures.now i 0 }
 {
-    let mut j: usize = 0;
-    while j < bytes.len() {
+    for j in 0..bytes.len() {
         let figure = nth(figures, j / 8);
         bytes[j] = byte_of(figure, j % 8);
-        j += 1;
     }
 }
 

@@ -27,11 +27,9 @@ pub fn figures(versions: [Version; 32], count: usize) -> [u64; 129]
     ensures versions_len { length versions ≡ 32 }
 {
     let mut figures = [0u64; 129];
-    let mut j: usize = 0;
-    while j < 128 {
+    for j in 0..128 {
         let version = versions[j / 4];
         figures[j] = version_figure(version, j % 4);
-        j += 1;
     }
     figures[128] = count as u64;
     figures
@@ -62,10 +60,8 @@ pub fn read(bytes: &[u8; 1032]) -> Store
         t: 0,
     };
     let mut versions = [nothing; 32];
-    let mut i: usize = 0;
-    while i < 32 {
+    for i in 0..32 {
         versions[i] = version_at(bytes, i);
-        i += 1;
     }
     Store {
         versions,

@@ -11,7 +11,8 @@ use lib.ListN.{length}
 use Rattle.words.specs.Answer.{Outcome, gives, refuses, pick}
 use Rattle.telegram.specs.Stretch.{inside, Taken, taken as is_taken, stretch_of}
 use Rattle.telegram.specs.Says.{says_reach}
-use Rattle.telegram.specs.declared.Reach.{Reach}
+use Rattle.telegram.specs.declared.Beyond.{Beyond}
+use Rattle.std.specs.Prelude.{Result, Ok, Err, ⊤}
 pub use Rattle.words.proofs.Linear.{and_parts as both}
 
 pub taken : (b : List ℕ) (start len : ℕ) → inside b start len ≡ true
@@ -38,7 +39,7 @@ is_given (gives t) = true
 is_given (refuses n) = false
 
 -- A stretch of which `inside` answers r.
-module _ (b : List ℕ) (start len : ℕ) (r : Reach) (says : says_reach r ≡ stretch_of b start len) where
+module _ (b : List ℕ) (start len : ℕ) (r : Result ⊤ Beyond) (says : says_reach r ≡ stretch_of b start len) where
   as_judged : inside b start len ≡ is_given (says_reach r)
   unfolding stretch_of
   as_judged = sym (ap is_given says ∙ go (inside b start len))
@@ -47,8 +48,8 @@ module _ (b : List ℕ) (start len : ℕ) (r : Reach) (says : says_reach r ≡ s
       go true = refl
       go false = refl
 
-  pub judged_inside : r ≡ Reach.Inside → inside b start len ≡ true
-  judged_inside e = as_judged ∙ ap (λ (x : Reach). is_given (says_reach x)) e
+  pub judged_inside : (u : ⊤) → r ≡ Ok u → inside b start len ≡ true
+  judged_inside u e = as_judged ∙ ap (λ (x : Result ⊤ Beyond). is_given (says_reach x)) e
 
-  pub judged_beyond : r ≡ Reach.Beyond → inside b start len ≡ false
-  judged_beyond e = as_judged ∙ ap (λ (x : Reach). is_given (says_reach x)) e
+  pub judged_beyond : (x : Beyond) → r ≡ Err x → inside b start len ≡ false
+  judged_beyond o e = as_judged ∙ ap (λ (x : Result ⊤ Beyond). is_given (says_reach x)) e

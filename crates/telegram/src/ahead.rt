@@ -40,10 +40,8 @@ fn where_stands(d: u64, x: u64, m: u64) -> u64
     ensures { (result ≤ m) × ((k : ℕ) → k < 64 → m / 2 ^ k % 2 ≡ 1 → x / 2 ^ k % 256 ≡ d → result / 2 ^ k % 2 ≡ 1) }
 {
     let mut h = m;
-    let mut j: u64 = 0;
-    while j < 8 {
-        h = h & ((x >> j) ^ ((1 - (d >> j) % 2) * u64::MAX));
-        j += 1;
+    for j in 0..8u64 {
+        h &= ((x >> j) ^ ((1 - (d >> j) % 2) * u64::MAX));
     }
     h
 }

@@ -40,10 +40,8 @@ fn whole(buf: &[u8], i: usize) -> u64
     ensures { result ≡ bits_at buf.now (8 * i) 64 }
 {
     let mut w: u64 = 0;
-    let mut k: usize = 0;
-    while k < 8 {
+    for k in 0..8 {
         w = w * 256 + buf[i + k] as u64;
-        k += 1;
     }
     w
 }
@@ -53,10 +51,8 @@ fn filled(buf: &[u8], i: usize) -> u64
     ensures { result ≡ bits_at buf.now (8 * i) 64 }
 {
     let mut w: u64 = 0;
-    let mut k: usize = 0;
-    while k < 8 {
+    for k in 0..8 {
         w = w * 256 + byte(buf, i, k);
-        k += 1;
     }
     w
 }

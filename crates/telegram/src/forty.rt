@@ -4,7 +4,7 @@ ghost use Rattle.telegram.specs.Telegram.{telegram};
 ghost use Rattle.telegram.specs.Place.{are_syncs, accepted};
 ghost use Rattle.telegram.specs.Says.{says_telegram_read};
 
-use crate::TelegramRead;
+use crate::{BadWord, Telegram};
 
 // The bytes of forty bits, but for the last: what a one in the last bit of each is worth.
 const FIRST: u64 = 4294967296;
@@ -24,7 +24,7 @@ pub fn is_place(v: u64, s: u8, t: u8) -> bool
     if !outer_are_syncs(v, s, t) {
         return false;
     }
-    is_telegram(words_of(v))
+    words_of(v).is_ok()
 }
 
 // Whether the outer bytes are s and t, in either order.
@@ -40,7 +40,7 @@ pub fn outer_are_syncs(v: u64, s: u8, t: u8) -> bool
 }
 
 // What the three words between them read.
-pub fn words_of(v: u64) -> TelegramRead
+pub fn words_of(v: u64) -> Result<Telegram, BadWord>
     ensures { says_telegram_read result ≡ telegram (v / 2 ^ 24 % 256) (v / 2 ^ 16 % 256) (v / 2 ^ 8 % 256) }
 {
     crate::read(
@@ -48,17 +48,6 @@ pub fn words_of(v: u64) -> TelegramRead
         (v / THIRD % 256) as u8,
         (v / FOURTH % 256) as u8,
     )
-}
-
-// Whether what was read is a telegram.
-fn is_telegram(read: TelegramRead) -> bool
-    ensures { result ≡ accepted (says_telegram_read read) }
-{
-    match read {
-        TelegramRead::Is(_) => true,
-        TelegramRead::NotCode(_, _) => false,
-        TelegramRead::Fifteen(_) => false,
-    }
 }
 
 // The word k of the three: X is 0, Y is 1, Z is 2.

@@ -7,14 +7,15 @@ ghost use Rattle.telegram.specs.Says.{says_found};
 use crate::ahead::{before_first, marks, up_to};
 use crate::bits::forty;
 use crate::forty::{outer_are_syncs, words_of};
-use crate::{Found, TelegramRead};
+use crate::{Found, NotFound};
 
 // The first place from bit `start` on and before bit `stop`.
-pub fn first_place(buf: &[u8], start: usize, stop: usize, s: u8, t: u8) -> Found
+pub fn first_place(buf: &[u8], start: usize, stop: usize, s: u8, t: u8) -> Result<Found, NotFound>
     requires { start ≤ stop }
     ensures { says_found result ≡ first_of buf.now (places buf.now start (stop - start + 39) s t) }
 {
     let mut p = start;
+    // Stays as it is: the new form is no plainer, for p goes by a stride that each turn finds.
     while p < stop {
         let h = marks(buf, p, s, t);
         if h == 0 {
@@ -24,18 +25,13 @@ pub fn first_place(buf: &[u8], start: usize, stop: usize, s: u8, t: u8) -> Found
             if p < stop {
                 let v = forty(buf, p);
                 if outer_are_syncs(v, s, t) {
-                    let read = words_of(v);
-                    match read {
-                        TelegramRead::Is(telegram) => {
-                            return Found::At { place: p, telegram };
-                        }
-                        TelegramRead::NotCode(_, _) => {}
-                        TelegramRead::Fifteen(_) => {}
+                    if let Ok(telegram) = words_of(v) {
+                        return Ok(Found { place: p, telegram });
                     }
                 }
                 p += 1;
             }
         }
     }
-    Found::NoPlace
+    Err(NotFound::NoPlace)
 }

@@ -1,25 +1,20 @@
 // The detector, alone and with the judging of what it hands out.
 use crate::say;
-use contact::{Next, SearchBegun, begin, judge, next_contact};
+use contact::{begin, judge, next_contact};
 
 // The contacts of a record's first bits, up to the first answer that is none.
 fn ask(rt: &impl Print, record: &[u8], bits: usize) {
-    let SearchBegun::Search(search) = begin(record, 0, bits) else {
+    let Ok(search) = begin(record, 0, bits) else {
         say::words(rt, b"refused 5\n");
         return;
     };
     let first = next_contact(search, record);
     say::next(rt, first);
-    let Next::Contact {
-        start: _,
-        length: _,
-        then,
-    } = first
-    else {
+    let Ok(Some(contact)) = first else {
         return;
     };
     say::words(rt, b"  and then: ");
-    say::next(rt, next_contact(then, record));
+    say::next(rt, next_contact(contact.then, record));
 }
 
 // 7 and 8 zeroes in sixteen, and a record that ends in a contact.
@@ -36,22 +31,17 @@ pub fn records(rt: &impl Print) {
 
 // The first contact of a record, judged.
 fn ask_and_judge(rt: &impl Print, record: &[u8], bits: usize) {
-    let SearchBegun::Search(search) = begin(record, 0, bits) else {
+    let Ok(search) = begin(record, 0, bits) else {
         say::words(rt, b"refused 5\n");
         return;
     };
     let first = next_contact(search, record);
     say::next(rt, first);
-    let Next::Contact {
-        start,
-        length,
-        then: _,
-    } = first
-    else {
+    let Ok(Some(contact)) = first else {
         return;
     };
     say::words(rt, b"  judged: ");
-    say::judged(rt, judge(record, start, length, 0x72, 0x0d));
+    say::judged(rt, judge(record, contact.start, contact.length, 0x72, 0x0d));
 }
 
 // A line of ones with a balise on it: its telegram three times, and once another telegram last.

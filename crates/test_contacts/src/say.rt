@@ -1,7 +1,7 @@
 // The answers in words, one line each.
-use contact::{Judged, JudgedUnder, Next};
+use contact::{HandedOut, Judged, JudgedUnder, NextRefused};
 use settings::Bad;
-use telegram::{Found, Pair, Telegram};
+use telegram::{Found, NotFound, NotSeven, Telegram};
 
 // Words on the line.
 pub fn words(rt: &impl Print, text: &[u8]) {
@@ -14,10 +14,10 @@ pub fn number(rt: &impl Print, n: u64) {
 }
 
 // The judgement of a sync pair.
-pub fn pair(rt: &impl Print, answer: Pair) {
+pub fn pair(rt: &impl Print, answer: Result<(), NotSeven>) {
     match answer {
-        Pair::Good => words(rt, b"good\n"),
-        Pair::NotSeven => words(rt, b"refused 4\n"),
+        Ok(()) => words(rt, b"good\n"),
+        Err(NotSeven) => words(rt, b"refused 4\n"),
     }
 }
 
@@ -40,41 +40,39 @@ fn telegram(rt: &impl Print, said: Telegram) {
 }
 
 // What the search for single telegrams found.
-pub fn found(rt: &impl Print, answer: Found) {
+pub fn found(rt: &impl Print, answer: Result<Found, NotFound>) {
     match answer {
-        Found::At {
-            place,
-            telegram: said,
-        } => {
+        Ok(
+            Found {
+                place,
+                telegram: said,
+            },
+        ) => {
             words(rt, b"place ");
             number(rt, place as u64);
             words(rt, b", ");
             telegram(rt, said);
             words(rt, b"\n");
         }
-        Found::NotSeven => words(rt, b"refused 4\n"),
-        Found::Beyond => words(rt, b"refused 5\n"),
-        Found::NoPlace => words(rt, b"refused 6\n"),
+        Err(NotFound::NotSeven) => words(rt, b"refused 4\n"),
+        Err(NotFound::Beyond) => words(rt, b"refused 5\n"),
+        Err(NotFound::NoPlace) => words(rt, b"refused 6\n"),
     }
 }
 
 // What the detector handed out.
-pub fn next(rt: &impl Print, answer: Next) {
+pub fn next(rt: &impl Print, answer: Result<Option<HandedOut>, NextRefused>) {
     match answer {
-        Next::Contact {
-            start,
-            length,
-            then: _,
-        } => {
+        Ok(Some(contact)) => {
             words(rt, b"contact from bit ");
-            number(rt, start as u64);
+            number(rt, contact.start as u64);
             words(rt, b", ");
-            number(rt, length as u64);
+            number(rt, contact.length as u64);
             words(rt, b" bits\n");
         }
-        Next::NoFurther => words(rt, b"no further contact\n"),
-        Next::Cut => words(rt, b"refused 9\n"),
-        Next::Beyond => words(rt, b"refused 5\n"),
+        Ok(None) => words(rt, b"no further contact\n"),
+        Err(NextRefused::Cut) => words(rt, b"refused 9\n"),
+        Err(NextRefused::Beyond) => words(rt, b"refused 5\n"),
     }
 }
 

@@ -2,7 +2,7 @@
 ghost use Rattle.std.specs.Prelude.{◌≤◌};
 
 use crate::say;
-use telegram::{Found, find, good_pair};
+use telegram::{find, good_pair};
 
 // Two telegrams that share a sync word, between the pair 72 and 0D hex of source 001.
 const SHARED: [u8; 9] = [0x72, 0x17, 0x8e, 0x5a, 0x0d, 0x99, 0x2b, 0x4d, 0x72];
@@ -55,10 +55,14 @@ fn ask(rt: &impl Print, start: usize) -> usize
     say::words(rt, b": ");
     let answer = find(&shared, start, 72 - start, 0x72, 0x0d);
     say::found(rt, answer);
-    let Found::At { place, telegram: _ } = answer else {
+    let Ok(found) = answer else {
         return 72;
     };
-    if place < 72 { place + 1 } else { 72 }
+    if found.place < 72 {
+        found.place + 1
+    } else {
+        72
+    }
 }
 
 // Two telegrams that share a sync word: asked again from the bit after each place, until 6.

@@ -7,7 +7,7 @@ ghost use Rattle.text.specs.Pieces.{puts};
 ghost use Rattle.group.specs.Says.{says_group_judged};
 ghost use Rattle.test_rows.specs.Answers.{direction_word, told_pieces, distance_pieces, content_pieces, balise_pieces, number_pieces, message_pieces, answer_pieces};
 
-use group::{Content, GroupJudged, Message, Number, Told};
+use group::{Content, GroupRefused, Message, Number, Told};
 use group_rows::Direction;
 
 fn direction(d: Direction, out: &mut [u8], at: usize) -> usize
@@ -97,23 +97,19 @@ fn message(m: Message, out: &mut [u8], at: usize) -> usize
 }
 
 // A refusal by its number, at the start of out.
-fn refused(n: u64, out: &mut [u8]) -> usize
+fn refused(n: u8, out: &mut [u8]) -> usize
     ensures { came result out.new ≡ puts (answer_pieces (refuses n)) out.old 0 }
 {
-    text::put_number(b"refused ", n, out, 0)
+    text::put_number(b"refused ", n as u64, out, 0)
 }
 
 // The whole answer at the start of out, piece by piece, each whole or not at all; answers how many
 // bytes it has.
-pub fn put(j: GroupJudged, out: &mut [u8]) -> usize
+pub fn put(j: Result<Message, GroupRefused>, out: &mut [u8]) -> usize
     ensures { came result out.new ≡ puts (answer_pieces (says_group_judged j)) out.old 0 }
 {
     match j {
-        GroupJudged::Accepted(m) => message(m, out, 0),
-        GroupJudged::One => refused(10, out),
-        GroupJudged::Many => refused(11, out),
-        GroupJudged::Unread => refused(12, out),
-        GroupJudged::NoRow => refused(13, out),
-        GroupJudged::NoDistance => refused(15, out),
+        Ok(m) => message(m, out, 0),
+        Err(e) => refused(u8::from(e), out),
     }
 }

@@ -2,8 +2,6 @@
 // decimetres it means or NA.
 use crate::tally::Tally;
 use crate::{say, spelling, tally};
-use figures::Figure;
-use group::Measured;
 
 // Whether a cell in metres, with or without a tenth after a comma, shows these decimetres.
 fn shows(cell: &[u8], dm: u64) -> bool {
@@ -18,9 +16,8 @@ fn shows(cell: &[u8], dm: u64) -> bool {
 // Whether the cell had to be put right: it does not show what it means.
 fn is_put_right(cell: &[u8], means: &[u8]) -> bool {
     match figures::decimal(means, 9999999) {
-        Figure::Number(dm) => !shows(cell, dm),
-        Figure::Above => cell != means,
-        Figure::Odd => cell != means,
+        Ok(dm) => !shows(cell, dm),
+        Err(_) => cell != means,
     }
 }
 
@@ -33,7 +30,7 @@ fn begin(rt: &impl Print, by: u8, figure: u8) {
 // Whether the distance is what the cell means; if not, a line says so.
 fn is_so(rt: &impl Print, by: u8, figure: u8, means: &[u8]) -> bool {
     match group::distance(by, figure) {
-        Measured::Dm(dm) => {
+        Ok(dm) => {
             let so = spelling::spells(means, dm as u64);
             if !so {
                 begin(rt, by, figure);
@@ -42,7 +39,7 @@ fn is_so(rt: &impl Print, by: u8, figure: u8, means: &[u8]) -> bool {
             }
             so
         }
-        Measured::NoDistance => {
+        Err(_) => {
             let so = means == b"NA".as_slice();
             if !so {
                 begin(rt, by, figure);

@@ -31,11 +31,12 @@ fn line(rt: &impl Print, file: File, before: Tally, text: &[u8]) -> Tally {
 // Every line of a file, counted.
 fn lines(rt: &impl Print, file: File, text: &[u8]) -> Tally {
     let mut t = tally::none();
-    let mut at = 0;
-    while at < text.len() {
-        let end = figures::place_of(text, at, b'\n');
-        t = line(rt, file, t, &text[at..end]);
-        at = end + 1;
+    if text.is_empty() {
+        return t;
+    }
+    let whole = text.strip_suffix(b"\n").unwrap_or(text);
+    for one in whole.split(|c| *c == b'\n') {
+        t = line(rt, file, t, one);
     }
     t
 }

@@ -1,15 +1,7 @@
 // Groups worked out by hand: a line holds the balises in the order passed, =, and what must come.
-use crate::balises::Meant;
 use crate::tally::Tally;
 use crate::{answers, balises, say, tally};
 use group::{Balise, Group, Heard};
-
-// The balises of a line as a group, good if each is one.
-#[derive(Clone, Copy)]
-struct Gathered {
-    good: bool,
-    group: Group,
-}
 
 // A group without balises.
 fn empty() -> Group {
@@ -42,19 +34,17 @@ fn joined(g: Group, heard: Heard) -> Group {
     }
 }
 
-// The balises that a text writes, with a blank between two.
-fn group_of(text: &[u8]) -> Gathered {
+// The balises that a text writes, with a blank between two, as a group; none where one is no balise.
+fn group_of(text: &[u8]) -> Option<Group> {
     let mut group = empty();
-    let mut at = 0;
-    while at < text.len() {
-        let end = figures::place_of(text, at, b' ');
-        let Meant::Is(heard) = balises::heard_of(&text[at..end]) else {
-            return Gathered { good: false, group };
-        };
-        group = joined(group, heard);
-        at = end + 1;
+    if text.is_empty() {
+        return Some(group);
     }
-    Gathered { good: true, group }
+    let written = text.strip_suffix(b" ").unwrap_or(text);
+    for balise in written.split(|c| *c == b' ') {
+        group = joined(group, balises::heard_of(balise)?);
+    }
+    Some(group)
 }
 
 // The first n bytes.
@@ -87,12 +77,9 @@ pub fn entry(rt: &impl Print, before: Tally, line: &[u8]) -> Tally {
         return tally::out_of_place(rt, before, line);
     }
     let from = sign + 2;
-    let asked = group_of(&line[0..sign]);
-    if asked.good {
-        say::text(rt, &line[0..from]);
-        let g = asked.group;
-        let so = is_judged_so(rt, g, &line[from..]);
-        return tally::entry(before, false, so);
-    }
-    tally::out_of_place(rt, before, line)
+    let Some(group) = group_of(&line[0..sign]) else {
+        return tally::out_of_place(rt, before, line);
+    };
+    say::text(rt, &line[0..from]);
+    tally::entry(before, false, is_judged_so(rt, group, &line[from..]))
 }

@@ -2,16 +2,13 @@
 ghost use Rattle.std.specs.Prelude.{◌≡◌};
 ghost use Rattle.test_rows.specs.Spelling.{spells, figure_of};
 
-use figures::Figure;
-
 // Whether a text spells the number n.
 pub fn spells(text: &[u8], n: u64) -> bool
     ensures { result ≡ spells text.now n }
 {
     match figures::decimal(text, 9999999) {
-        Figure::Number(m) => m == n,
-        Figure::Above => false,
-        Figure::Odd => false,
+        Ok(m) => m == n,
+        Err(_) => false,
     }
 }
 
@@ -20,8 +17,7 @@ pub fn figure(text: &[u8]) -> u8
     ensures { result ≡ figure_of text.now }
 {
     match figures::decimal(text, 15) {
-        Figure::Number(m) => m as u8,
-        Figure::Above => 255,
-        Figure::Odd => 255,
+        Ok(m) => m as u8,
+        Err(_) => 255,
     }
 }

@@ -2,13 +2,11 @@
 // hexadecimal digits read off the cell or `-`; of a cell that was put right, a tab, the four digits
 // put right, a tab, and why. A line that begins with # is a comment.
 ghost use Rattle.std.specs.Prelude.{◌≡◌};
-ghost use Rattle.test_words.specs.Lines.{begins, word_by, shown_by, held_by, righted, put_right, columns_of, cell_of};
-
-use figures::{Byte, Figure};
+ghost use Rattle.test_words.specs.Lines.{begins, word_by, shown_by, held_by, righted, columns_of, cell_of};
 
 // What a line holds: a figure with the word that its cell shows; one whose cell shows no word, with
 // the word put right; one whose cell shows a wrong word, with that word and the word put right; one
-// whose cell is unreadable; a comment, or none of these.
+// whose cell is unreadable; or a comment.
 #[derive(Clone, Copy)]
 pub enum Cell {
     Word(u16, u16),
@@ -16,15 +14,13 @@ pub enum Cell {
     Misread(u16, u16, u16),
     Unreadable(u16),
     Comment,
-    Unknown,
 }
 
-// What was read off a cell: a word, that it is unreadable, or neither.
+// What was read off a cell: a word, or that it is unreadable.
 #[derive(Clone, Copy)]
 pub enum Shown {
     Word(u16),
     Unreadable,
-    Unknown,
 }
 
 // Whether a text begins with the sign.
@@ -38,31 +34,26 @@ fn begins(text: &[u8], sign: u8) -> bool
 }
 
 // The word that four hexadecimal digits spell.
-fn word(text: &[u8]) -> Shown
+fn word(text: &[u8]) -> Option<u16>
     ensures { result ≡ word_by text.now }
 {
     if text.len() != 4 {
-        return Shown::Unknown;
+        return None;
     }
-    let high = figures::hex(&text[0..2]);
-    let low = figures::hex(&text[2..4]);
-    let Byte::Is(y) = high else {
-        return Shown::Unknown;
-    };
-    let Byte::Is(z) = low else {
-        return Shown::Unknown;
-    };
-    Shown::Word(y as u16 * 256 + z as u16)
+    let y = figures::hex(&text[0..2])?;
+    let z = figures::hex(&text[2..4])?;
+    Some(y as u16 * 256 + z as u16)
 }
 
-// What was read off a cell.
-fn read_off(text: &[u8]) -> Shown
+// What was read off a cell; none where it is neither.
+fn read_off(text: &[u8]) -> Option<Shown>
     ensures { result ≡ shown_by text.now }
 {
     if (text.len() == 1) & begins(text, b'-') {
-        return Shown::Unreadable;
+        return Some(Shown::Unreadable);
     }
-    word(text)
+    let word = word(text)?;
+    Some(Shown::Word(word))
 }
 
 // What the cell of a figure holds, by what was read off it.
@@ -72,7 +63,6 @@ fn held(figure: u16, off: Shown) -> Cell
     match off {
         Shown::Word(word) => Cell::Word(figure, word),
         Shown::Unreadable => Cell::Unreadable(figure),
-        Shown::Unknown => Cell::Unknown,
     }
 }
 
@@ -83,47 +73,35 @@ fn righted(figure: u16, off: Shown, word: u16) -> Cell
     match off {
         Shown::Word(wrong) => Cell::Misread(figure, wrong, word),
         Shown::Unreadable => Cell::Right(figure, word),
-        Shown::Unknown => Cell::Unknown,
     }
 }
 
-// The same by what was put in its place, which has to be a word.
-fn put_right(figure: u16, off: Shown, right: Shown) -> Cell
-    ensures { result ≡ put_right figure off right }
-{
-    match right {
-        Shown::Word(word) => righted(figure, off, word),
-        Shown::Unreadable => Cell::Unknown,
-        Shown::Unknown => Cell::Unknown,
-    }
-}
-
-// What the cell of a figure holds, by the columns after the cell.
-fn columns(figure: u16, line: &[u8]) -> Cell
+// What the cell of a figure holds, by the columns after the cell; none where they say nothing.
+fn columns(figure: u16, line: &[u8]) -> Option<Cell>
     ensures { result ≡ columns_of figure line.now }
 {
-    let off = read_off(figures::field(line, b'\t', 2));
+    let off = read_off(figures::field(line, b'\t', 2))?;
     let right = figures::field(line, b'\t', 3);
     let why = figures::field(line, b'\t', 4);
     if right.len() == 0 {
-        return held(figure, off);
+        return Some(held(figure, off));
     }
     if why.len() == 0 {
-        return Cell::Unknown;
+        return None;
     }
-    put_right(figure, off, word(right))
+    let word = word(right)?;
+    Some(righted(figure, off, word))
 }
 
-// What a line holds.
-pub fn read(line: &[u8]) -> Cell
+// What a line holds; none where it is neither a cell nor a comment.
+pub fn read(line: &[u8]) -> Option<Cell>
     ensures { result ≡ cell_of line.now }
 {
     if begins(line, b'#') {
-        return Cell::Comment;
+        return Some(Cell::Comment);
     }
     match figures::decimal(figures::field(line, b'\t', 0), 2047) {
-        Figure::Number(n) => columns(n as u16, line),
-        Figure::Above => Cell::Unknown,
-        Figure::Odd => Cell::Unknown,
+        Ok(n) => columns(n as u16, line),
+        Err(_) => None,
     }
 }

@@ -2,7 +2,7 @@
 // how many of the refused are odd and even.
 use crate::say;
 use figures::more;
-use words::{LongRead, LongWritten, Parity, ShortRead, ShortWritten};
+use words::{NotCode, Parity, TooLarge};
 
 // How many of the words are read, how many of those are written back, and how many of the refused
 // ones are odd and even.
@@ -60,7 +60,7 @@ fn begin_short(rt: &impl Print, word: u8, figure: u8) {
 // A long word that reads as the figure is written back as itself; if not, a line says so.
 fn is_long_back(rt: &impl Print, word: u16, figure: u16) -> bool {
     match words::write_long(figure) {
-        LongWritten::Word(w) => {
+        Ok(w) => {
             if w != word {
                 begin_long(rt, word, figure);
                 say::long_word(rt, b", written ", w);
@@ -68,7 +68,7 @@ fn is_long_back(rt: &impl Print, word: u16, figure: u16) -> bool {
             }
             w == word
         }
-        LongWritten::TooLarge => {
+        Err(TooLarge) => {
             begin_long(rt, word, figure);
             say::text(rt, b", writing refused with 2\n");
             false
@@ -79,7 +79,7 @@ fn is_long_back(rt: &impl Print, word: u16, figure: u16) -> bool {
 // A short word that reads as the figure is written back as itself; if not, a line says so.
 fn is_short_back(rt: &impl Print, word: u8, figure: u8) -> bool {
     match words::write_short(figure) {
-        ShortWritten::Word(w) => {
+        Ok(w) => {
             if w != word {
                 begin_short(rt, word, figure);
                 say::short_word(rt, b", written ", w);
@@ -87,7 +87,7 @@ fn is_short_back(rt: &impl Print, word: u8, figure: u8) -> bool {
             }
             w == word
         }
-        ShortWritten::TooLarge => {
+        Err(TooLarge) => {
             begin_short(rt, word, figure);
             say::text(rt, b", writing refused with 2\n");
             false
@@ -97,15 +97,15 @@ fn is_short_back(rt: &impl Print, word: u8, figure: u8) -> bool {
 
 fn long_word(rt: &impl Print, before: Tally, word: u16) -> Tally {
     match words::read_long(word) {
-        LongRead::Figure(figure) => read_one(before, is_long_back(rt, word, figure)),
-        LongRead::NotCode(parity) => refused_one(before, parity),
+        Ok(figure) => read_one(before, is_long_back(rt, word, figure)),
+        Err(NotCode(parity)) => refused_one(before, parity),
     }
 }
 
 fn short_word(rt: &impl Print, before: Tally, word: u8) -> Tally {
     match words::read_short(word) {
-        ShortRead::Figure(figure) => read_one(before, is_short_back(rt, word, figure)),
-        ShortRead::NotCode(parity) => refused_one(before, parity),
+        Ok(figure) => read_one(before, is_short_back(rt, word, figure)),
+        Err(NotCode(parity)) => refused_one(before, parity),
     }
 }
 
@@ -120,20 +120,16 @@ fn tell(rt: &impl Print, kind: &[u8], words: u32, t: Tally) {
 
 fn every_long_word(rt: &impl Print) -> Tally {
     let mut t = NONE;
-    let mut word: u32 = 0;
-    while word < 65536 {
-        t = long_word(rt, t, word as u16);
-        word += 1;
+    for word in 0..=u16::MAX {
+        t = long_word(rt, t, word);
     }
     t
 }
 
 fn every_short_word(rt: &impl Print) -> Tally {
     let mut t = NONE;
-    let mut word: u32 = 0;
-    while word < 256 {
-        t = short_word(rt, t, word as u8);
-        word += 1;
+    for word in 0..=u8::MAX {
+        t = short_word(rt, t, word);
     }
     t
 }

@@ -6,6 +6,7 @@ use std::io::Read;
 use std::rt::{Env, Files};
 
 // Opens the file that an argument names; none where that cannot be done.
+// Stays as it is: a crate that both programs share, with contract and edits, is no plainer.
 fn opened<R: Env + Files>(rt: &R, which: usize) -> Option<R::File> {
     let mut path = [0u8; 4096];
     let Ok(n) = rt.arg(which, &mut path) else {
@@ -32,6 +33,7 @@ fn fill(file: &mut impl Read, buf: &mut [u8]) -> usize
     ensures { result ≤ length buf.new }
 {
     let mut have = 0;
+    // Stays as it is: a for is no plainer, since how far each turn goes is what the read gave.
     while have < buf.len() {
         let count = read_some(file, &mut buf[have..]);
         if count == 0 {

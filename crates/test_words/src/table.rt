@@ -3,7 +3,7 @@
 use crate::cells::Cell;
 use crate::counts::{Counts, WordFound};
 use crate::{cells, counts, say};
-use words::{LongRead, LongWritten};
+use words::{NotCode, TooLarge};
 
 // Begins the line of a difference.
 fn begin(rt: &impl Print, figure: u16, word: u16) {
@@ -14,7 +14,7 @@ fn begin(rt: &impl Print, figure: u16, word: u16) {
 // Whether the figure is written as the word shown; if not, a line says so.
 fn is_written(rt: &impl Print, figure: u16, word: u16) -> bool {
     match words::write_long(figure) {
-        LongWritten::Word(w) => {
+        Ok(w) => {
             if w != word {
                 begin(rt, figure, word);
                 say::long_word(rt, b", written ", w);
@@ -22,7 +22,7 @@ fn is_written(rt: &impl Print, figure: u16, word: u16) -> bool {
             }
             w == word
         }
-        LongWritten::TooLarge => {
+        Err(TooLarge) => {
             begin(rt, figure, word);
             say::text(rt, b", writing refused with 2\n");
             false
@@ -31,9 +31,9 @@ fn is_written(rt: &impl Print, figure: u16, word: u16) -> bool {
 }
 
 // Whether a reader reads the word shown as the figure; if not, a line says so.
-fn is_read(rt: &impl Print, figure: u16, word: u16, read: LongRead, by: &[u8]) -> bool {
+fn is_read(rt: &impl Print, figure: u16, word: u16, read: Result<u16, NotCode>, by: &[u8]) -> bool {
     match read {
-        LongRead::Figure(f) => {
+        Ok(f) => {
             if f != figure {
                 begin(rt, figure, word);
                 say::text(rt, by);
@@ -42,7 +42,7 @@ fn is_read(rt: &impl Print, figure: u16, word: u16, read: LongRead, by: &[u8]) -
             }
             f == figure
         }
-        LongRead::NotCode(_) => {
+        Err(NotCode(_)) => {
             begin(rt, figure, word);
             say::text(rt, by);
             say::text(rt, b" refused with 1\n");
@@ -52,10 +52,16 @@ fn is_read(rt: &impl Print, figure: u16, word: u16, read: LongRead, by: &[u8]) -
 }
 
 // Whether a reader refuses the word shown by mistake; if not, a line says so.
-fn is_refused(rt: &impl Print, figure: u16, word: u16, read: LongRead, by: &[u8]) -> bool {
+fn is_refused(
+    rt: &impl Print,
+    figure: u16,
+    word: u16,
+    read: Result<u16, NotCode>,
+    by: &[u8],
+) -> bool {
     match read {
-        LongRead::NotCode(_) => true,
-        LongRead::Figure(f) => {
+        Err(NotCode(_)) => true,
+        Ok(f) => {
             begin(rt, figure, word);
             say::text(rt, b" by mistake");
             say::text(rt, by);
@@ -107,15 +113,14 @@ fn is_next(rt: &impl Print, figure: u16, next: u32) -> bool {
 
 // One line of the table's file, counted.
 fn line(rt: &impl Print, before: Counts, text: &[u8]) -> Counts {
-    let found = cells::read(text);
+    let Some(found) = cells::read(text) else {
+        say::text(rt, b"difference: no cell in the line ");
+        say::text(rt, text);
+        say::text(rt, b"\n");
+        return counts::unknown(before);
+    };
     match found {
         Cell::Comment => before,
-        Cell::Unknown => {
-            say::text(rt, b"difference: no cell in the line ");
-            say::text(rt, text);
-            say::text(rt, b"\n");
-            counts::unknown(before)
-        }
         Cell::Unreadable(figure) => {
             let c = counts::cell(before, figure, is_next(rt, figure, before.next));
             counts::unreadable(c)
@@ -138,11 +143,11 @@ fn line(rt: &impl Print, before: Counts, text: &[u8]) -> Counts {
 // The whole of the table's file.
 pub fn compare(rt: &impl Print, text: &[u8]) {
     let mut c = counts::none();
-    let mut at = 0;
-    while at < text.len() {
-        let end = figures::place_of(text, at, b'\n');
-        c = line(rt, c, &text[at..end]);
-        at = end + 1;
+    let lines = text.strip_suffix(b"\n").unwrap_or(text);
+    if !text.is_empty() {
+        for one in lines.split(|sign| *sign == b'\n') {
+            c = line(rt, c, one);
+        }
     }
     counts::tell(rt, c);
 }

@@ -4,62 +4,55 @@
 -- 12, or `12 NUMBER`, and nothing after: `1000 12 8 5` and `1000 12` are unreadable, and so is a
 -- PLACE above 4,294,967,295."
 -- Assumes nothing.
-use Rattle.std.specs.Prelude.{ℕ, Bool, true, false, eqb, leb, get_or}
+use Rattle.std.specs.Prelude.{ℕ, Bool, true, false, eqb, leb, get_or, Option, Some, None, Result, Ok, Err}
 use Rattle.words.specs.Answer.{pick}
-use Rattle.figures.specs.declared.Byte.{Byte}
-use Rattle.lines.specs.declared.Number.{Number}
+use Rattle.figures.specs.declared.NotFigure.{NotFigure}
 use Rattle.lines.specs.declared.Name.{Name}
 use Rattle.lines.specs.declared.Word.{Word}
 use Rattle.lines.specs.declared.TextLine.{TextLine}
 use Rattle.lines.specs.Words.{no_word}
 use Rattle.trace_text.specs.declared.What.{What}
 use Rattle.trace_text.specs.declared.Said.{Said}
-use Rattle.trace_text.specs.declared.reading.Capped.{Capped}
-use Rattle.trace_text.specs.declared.reading.Read.{Read}
 
 -- A word as a figure: "a figure of any length is a figure". One too large for its type, of which
 -- `most` is the largest, stands as that, which is refused like it.
-unfoldable pub figure_of : Number → ℕ → Capped
-figure_of (Number.Is n) most = Capped.Is (pick (leb n most) n most)
-figure_of Number.Above most = Capped.Is most
-figure_of Number.Odd most = Capped.Odd
+unfoldable pub figure_of : Result ℕ NotFigure → ℕ → Option ℕ
+figure_of (Ok n) most = Some (pick (leb n most) n most)
+figure_of (Err NotFigure.Above) most = Some most
+figure_of (Err NotFigure.Odd) most = None
 
 -- What is needed goes on to what follows; without it nothing can be read.
-abbrev pub with_figure : Capped → (ℕ → Read) → Read
-with_figure (Capped.Is n) next = next n
-with_figure Capped.Odd next = Read.Odd
-
-abbrev pub with_byte : Byte → (ℕ → Read) → Read
-with_byte (Byte.Is b) next = next b
-with_byte Byte.Odd next = Read.Odd
+abbrev pub with_figure : Option ℕ → (ℕ → Option What) → Option What
+with_figure (Some n) next = next n
+with_figure None next = None
 
 -- One word: "marker", "unreadable", "position".
-abbrev pub named : Name → Read
-named Name.Marker = Read.Is What.Marker
-named Name.Unreadable = Read.Is What.Unreadable
-named Name.Position = Read.Is What.Position
-named Name.Raw = Read.Odd
-named Name.Signal = Read.Odd
-named Name.Warning = Read.Odd
-named Name.Annulled = Read.Odd
-named Name.Line = Read.Odd
-named Name.Route = Read.Odd
-named Name.Other = Read.Odd
+abbrev pub named : Name → Option What
+named Name.Marker = Some What.Marker
+named Name.Unreadable = Some What.Unreadable
+named Name.Position = Some What.Position
+named Name.Raw = None
+named Name.Signal = None
+named Name.Warning = None
+named Name.Annulled = None
+named Name.Line = None
+named Name.Route = None
+named Name.Other = None
 
 -- Two words: "`12 NUMBER`".
-unfoldable pub numbered : Number → Number → Read
+unfoldable pub numbered : Result ℕ NotFigure → Result ℕ NotFigure → Option What
 numbered first second =
     with_figure (figure_of first 255) λ x.
     with_figure (figure_of second 65535) λ y.
-    pick (eqb x 12) (Read.Is (What.Balise 12 y 0)) Read.Odd
+    pick (eqb x 12) (Some (What.Balise 12 y 0)) None
 
 -- Three words: "`X Y Z` with X not 12".
-unfoldable pub figures : Number → Number → Number → Read
+unfoldable pub figures : Result ℕ NotFigure → Result ℕ NotFigure → Result ℕ NotFigure → Option What
 figures first second third =
     with_figure (figure_of first 255) λ x.
     with_figure (figure_of second 65535) λ y.
     with_figure (figure_of third 255) λ z.
-    pick (eqb x 12) Read.Odd (Read.Is (What.Balise x y z))
+    pick (eqb x 12) None (Some (What.Balise x y z))
 
 -- Whether a name is `raw`.
 abbrev pub is_raw : Name → Bool
@@ -75,15 +68,15 @@ is_raw Name.Route = false
 is_raw Name.Other = false
 
 -- Five words: "`raw`" and the bytes 4 to 7.
-unfoldable pub raw : Name → Byte → Byte → Byte → Byte → Read
+unfoldable pub raw : Name → Option ℕ → Option ℕ → Option ℕ → Option ℕ → Option What
 raw name a b c d =
     pick (is_raw name)
-    (with_byte a λ kind.
-    with_byte b λ x.
-    with_byte c λ y.
-    with_byte d λ z.
-    Read.Is (What.Raw kind x y z))
-    Read.Odd
+    (with_figure a λ kind.
+    with_figure b λ x.
+    with_figure c λ y.
+    with_figure d λ z.
+    Some (What.Raw kind x y z))
+    None
 
 -- A word of a line.
 abbrev pub nth : TextLine → ℕ → Word
@@ -91,22 +84,21 @@ nth line i = get_or line.words i no_word
 
 -- What stands after the place, "and nothing after": it goes by the number of words, the place among
 -- them.
-unfoldable pub what_of : TextLine → Read
+unfoldable pub what_of : TextLine → Option What
 what_of line =
     pick (eqb line.count 2) (named (nth line 1).name)
     (pick (eqb line.count 3) (numbered (nth line 1).number (nth line 2).number)
     (pick (eqb line.count 4) (figures (nth line 1).number (nth line 2).number (nth line 3).number)
     (pick (eqb line.count 6) (raw (nth line 1).name (nth line 2).byte (nth line 3).byte (nth line 4).byte (nth line 5).byte)
-    Read.Odd)))
+    None)))
 
-abbrev pub thing : ℕ → Read → Said
-thing place (Read.Is what) = Said.Thing place what
-thing place Read.Odd = Said.Unreadable
+abbrev pub thing : ℕ → Option What → Said
+thing place (Some what) = Said.Thing place what
+thing place None = Said.Unreadable
 
-abbrev pub at_place : Number → Read → Said
-at_place (Number.Is place) read = thing place read
-at_place Number.Above read = Said.Unreadable
-at_place Number.Odd read = Said.Unreadable
+abbrev pub at_place : Result ℕ NotFigure → Option What → Said
+at_place (Ok place) read = thing place read
+at_place (Err e) read = Said.Unreadable
 
 -- What a line says.
 unfoldable pub said : TextLine → Said

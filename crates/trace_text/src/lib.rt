@@ -19,8 +19,7 @@ mod putting;
 mod reading;
 mod things;
 
-use lines::{Number, TextLine};
-use reading::Read;
+use lines::{TextLine, Word};
 
 // What lies at a place: a balise with its figures X, Y and Z (for X = 12 with its number Y), where
 // one too large for its type stands as the largest of it; a marker, something unreadable, a
@@ -35,6 +34,7 @@ pub enum What {
 }
 
 // What a line says: nothing, what lies at a place in dm, or it is unreadable.
+// Stays as it is: a `Result<Option<..>, ..>` is no plainer, since a line has three plain ends.
 #[derive(Clone, Copy)]
 pub enum Said {
     Nothing,
@@ -64,23 +64,21 @@ pub fn read(line: TextLine) -> Said
     if line.count == 0 {
         return Said::Nothing;
     }
-    let words = line.words;
+    let words: &[Word] = &line.words;
     let first = words[0];
-    let number = first.number;
-    match number {
-        Number::Is(place) => thing(place, reading::what_of(line)),
-        Number::Above => Said::Unreadable,
-        Number::Odd => Said::Unreadable,
+    match first.number {
+        Ok(place) => thing(place, reading::what_of(line)),
+        Err(_) => Said::Unreadable,
     }
 }
 
 // What was read, at its place.
-fn thing(place: u32, read: Read) -> Said
+fn thing(place: u32, read: Option<What>) -> Said
     ensures { result ≡ thing place read }
 {
     match read {
-        Read::Is(what) => Said::Thing { place, what },
-        Read::Odd => Said::Unreadable,
+        Some(what) => Said::Thing { place, what },
+        None => Said::Unreadable,
     }
 }
 

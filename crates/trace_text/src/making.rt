@@ -6,7 +6,7 @@ ghost use Rattle.trace_text.specs.Says.{says_making_went, says_recorded};
 ghost use Rattle.trace_text.specs.declared.What.{What};
 
 use crate::{MakingWent, Recorded};
-use telegram::Spelt;
+use telegram::{NotSpelt, Spelt};
 
 // No record, and why.
 fn refused(how: MakingWent) -> Recorded
@@ -36,10 +36,9 @@ pub fn made(place: u32, kind: u8, x: u8, y: u8, z: u8) -> Recorded
 pub fn balise(place: u32, x: u8, y: u16, z: u8) -> Recorded
     ensures { says_recorded result ≡ recording (record_of_meant place (What.Balise x y z)) }
 {
-    let spelt = telegram::spell(x, y, z);
-    match spelt {
-        Spelt::Words { x: a, y: b, z: c } => made(place, 0, a, b, c),
-        Spelt::TooLarge => refused(MakingWent::TooLarge),
-        Spelt::Fifteen => refused(MakingWent::Fifteen),
+    match telegram::spell(x, y, z) {
+        Ok(Spelt { x: a, y: b, z: c }) => made(place, 0, a, b, c),
+        Err(NotSpelt::TooLarge) => refused(MakingWent::TooLarge),
+        Err(NotSpelt::Fifteen) => refused(MakingWent::Fifteen),
     }
 }

@@ -3,71 +3,57 @@ ghost use Rattle.std.specs.Prelude.{◌≡◌};
 ghost use Rattle.trace_text.specs.Said.{figure_of, named, numbered, figures, is_raw, raw, what_of};
 
 use crate::What;
-use figures::Byte;
-use lines::{Name, Number, TextLine, Word};
-
-// A figure, no larger than the largest asked for, or none.
-#[derive(Clone, Copy)]
-pub enum Capped {
-    Is(u32),
-    Odd,
-}
-
-// What lies at the place, or that it cannot be read.
-#[derive(Clone, Copy)]
-pub enum Read {
-    Is(What),
-    Odd,
-}
+use figures::NotFigure;
+use lines::{Name, TextLine, Word};
 
 // A word as a figure, of which `most` is the largest that its type has.
-fn figure_of(number: Number, most: u32) -> Capped
+fn figure_of(number: Result<u32, NotFigure>, most: u32) -> Option<u32>
     ensures { result ≡ figure_of number most }
 {
     match number {
-        Number::Is(n) => {
+        Ok(n) => {
             if n > most {
-                return Capped::Is(most);
+                return Some(most);
             }
-            Capped::Is(n)
+            Some(n)
         }
-        Number::Above => Capped::Is(most),
-        Number::Odd => Capped::Odd,
+        Err(NotFigure::Above) => Some(most),
+        Err(NotFigure::Odd) => None,
     }
 }
 
 // One word: a name.
-fn named(name: Name) -> Read
+fn named(name: Name) -> Option<What>
     ensures { result ≡ named name }
 {
     match name {
-        Name::Marker => Read::Is(What::Marker),
-        Name::Unreadable => Read::Is(What::Unreadable),
-        Name::Position => Read::Is(What::Position),
-        Name::Raw => Read::Odd,
-        Name::Signal => Read::Odd,
-        Name::Warning => Read::Odd,
-        Name::Annulled => Read::Odd,
-        Name::Line => Read::Odd,
-        Name::Route => Read::Odd,
-        Name::Other => Read::Odd,
+        Name::Marker => Some(What::Marker),
+        Name::Unreadable => Some(What::Unreadable),
+        Name::Position => Some(What::Position),
+        Name::Raw => None,
+        Name::Signal => None,
+        Name::Warning => None,
+        Name::Annulled => None,
+        Name::Line => None,
+        Name::Route => None,
+        Name::Other => None,
     }
 }
 
 // Two words: 12 and a number.
-fn numbered(first: Number, second: Number) -> Read
+fn numbered(first: Result<u32, NotFigure>, second: Result<u32, NotFigure>) -> Option<What>
     ensures { result ≡ numbered first second }
 {
-    let Capped::Is(x) = figure_of(first, 255) else {
-        return Read::Odd;
+    let Some(x) = figure_of(first, 255) else {
+        return None;
     };
-    let Capped::Is(y) = figure_of(second, 65535) else {
-        return Read::Odd;
+    let Some(y) = figure_of(second, 65535) else {
+        return None;
     };
     if x != 12 {
-        return Read::Odd;
+        return None;
     }
-    Read::Is(What::Balise {
+    Some(What::Balise {
         x: 12,
         y: y as u16,
         z: 0,
@@ -75,22 +61,26 @@ fn numbered(first: Number, second: Number) -> Read
 }
 
 // Three words: three figures, of which the first is not 12.
-fn figures(first: Number, second: Number, third: Number) -> Read
+fn figures(
+    first: Result<u32, NotFigure>,
+    second: Result<u32, NotFigure>,
+    third: Result<u32, NotFigure>,
+) -> Option<What>
     ensures { result ≡ figures first second third }
 {
-    let Capped::Is(x) = figure_of(first, 255) else {
-        return Read::Odd;
+    let Some(x) = figure_of(first, 255) else {
+        return None;
     };
-    let Capped::Is(y) = figure_of(second, 65535) else {
-        return Read::Odd;
+    let Some(y) = figure_of(second, 65535) else {
+        return None;
     };
-    let Capped::Is(z) = figure_of(third, 255) else {
-        return Read::Odd;
+    let Some(z) = figure_of(third, 255) else {
+        return None;
     };
     if x == 12 {
-        return Read::Odd;
+        return None;
     }
-    Read::Is(What::Balise {
+    Some(What::Balise {
         x: x as u8,
         y: y as u16,
         z: z as u8,
@@ -116,33 +106,33 @@ fn is_raw(name: Name) -> bool
 }
 
 // Five words: `raw` and four bytes.
-fn raw(name: Name, a: Byte, b: Byte, c: Byte, d: Byte) -> Read
+fn raw(name: Name, a: Option<u8>, b: Option<u8>, c: Option<u8>, d: Option<u8>) -> Option<What>
     ensures { result ≡ raw name a b c d }
 {
     if !is_raw(name) {
-        return Read::Odd;
+        return None;
     }
-    let Byte::Is(kind) = a else {
-        return Read::Odd;
+    let Some(kind) = a else {
+        return None;
     };
-    let Byte::Is(x) = b else {
-        return Read::Odd;
+    let Some(x) = b else {
+        return None;
     };
-    let Byte::Is(y) = c else {
-        return Read::Odd;
+    let Some(y) = c else {
+        return None;
     };
-    let Byte::Is(z) = d else {
-        return Read::Odd;
+    let Some(z) = d else {
+        return None;
     };
-    Read::Is(What::Raw { kind, x, y, z })
+    Some(What::Raw { kind, x, y, z })
 }
 
 // What stands after the place.
-pub fn what_of(line: TextLine) -> Read
+pub fn what_of(line: TextLine) -> Option<What>
     ensures { result ≡ what_of line }
 {
     let count = line.count;
-    let words = line.words;
+    let words: &[Word] = &line.words;
     let first = words[1];
     let second = words[2];
     let third = words[3];
@@ -155,12 +145,12 @@ pub fn what_of(line: TextLine) -> Read
         3 => numbered(x, y),
         4 => figures(x, y, z),
         6 => raw_of(name, second, third, words[4], words[5]),
-        _ => Read::Odd,
+        _ => None,
     }
 }
 
 // `raw` with four words.
-fn raw_of(name: Name, a: Word, b: Word, c: Word, d: Word) -> Read
+fn raw_of(name: Name, a: Word, b: Word, c: Word, d: Word) -> Option<What>
     ensures { result ≡ raw name a.byte b.byte c.byte d.byte }
 {
     let kind = a.byte;

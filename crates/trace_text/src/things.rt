@@ -4,7 +4,7 @@ ghost use Rattle.telegram.specs.Telegram.{telegram};
 ghost use Rattle.trace_text.specs.Thing.{place_of, balise_of, informed, blank, thing_of};
 
 use crate::What;
-use telegram::{Telegram, TelegramRead};
+use telegram::{BadWord, Telegram};
 
 // The place of four bytes, the highest first.
 pub fn place_of(a: u8, b: u8, c: u8, d: u8) -> u32
@@ -27,11 +27,10 @@ fn balise_of(telegram: Telegram) -> What
 fn information(x: u8, y: u8, z: u8) -> What
     ensures { result ≡ informed x y z (telegram x y z) }
 {
-    let read = telegram::read(x, y, z);
-    match read {
-        TelegramRead::Is(t) => balise_of(t),
-        TelegramRead::NotCode(_, _) => What::Raw { kind: 0, x, y, z },
-        TelegramRead::Fifteen(_) => What::Raw { kind: 0, x, y, z },
+    match telegram::read(x, y, z) {
+        Ok(t) => balise_of(t),
+        Err(BadWord::NotCode(_, _)) => What::Raw { kind: 0, x, y, z },
+        Err(BadWord::Fifteen(_)) => What::Raw { kind: 0, x, y, z },
     }
 }
 

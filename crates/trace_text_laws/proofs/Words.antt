@@ -12,7 +12,7 @@ use Rattle.words.specs.Answer.{Outcome, gives, refuses, then, pick}
 use Rattle.words.proofs.Never.{cannot_be}
 use Rattle.text.specs.Text.{codes, decimal}
 use Rattle.figures.specs.Figures.{hex_digit, hex}
-use Rattle.figures.specs.declared.Byte.{Byte}
+use Rattle.std.specs.Prelude.{Some}
 use Rattle.figures.proofs.Characters.{decimal_digit, large_letter, two_digits}
 use Rattle.telegram.specs.declared.Telegram.{Telegram}
 use Rattle.telegram.specs.Spelling.{Words, asked, too_large, has_fifteen, words_of, spell}
@@ -62,15 +62,15 @@ sign d h = by (ltb d 10) refl
         let large = ltb-false d 10 e in
         (sym (large_letter (55 + d) (omega arith) (omega arith)) ∙ (let z : 55 + d - 55 ≡ d = omega arith in z), omega arith)
 
-pub byte_back : (b : ℕ) → b < 256 → hex (in_hex b) ≡ Byte.Is b
+pub byte_back : (b : ℕ) → b < 256 → hex (in_hex b) ≡ Some b
 byte_back b small =
     let high = sign (b / 16) (omega arith) in
     let low = sign (b % 16) (omega arith) in
     let h : hex_digit (hex_sign (b / 16)) < 16 = omega (arith, high.0) in
     let l : hex_digit (hex_sign (b % 16)) < 16 = omega (arith, low.0) in
     sym (two_digits (in_hex b) refl h l)
-    ∙ ap₂ (λ (v w : ℕ). Byte.Is (v * 16 + w)) high.0 low.0
-    ∙ ap Byte.Is (let z : b / 16 * 16 + b % 16 ≡ b = omega arith in z)
+    ∙ ap₂ (λ (v w : ℕ). Some (v * 16 + w)) high.0 low.0
+    ∙ ap Some (let z : b / 16 * 16 + b % 16 ≡ b = omega arith in z)
 
 pub hex_word : (b : ℕ) → b < 256 → AWord (in_hex b)
 unfolding plain

@@ -1,5 +1,5 @@
 // What the arguments ask for.
-use console::{NumberAsked, PairAsked, System};
+use console::{CallWrong, System};
 
 // A sync pair, and how many frames there are to each decimetre; the text's file is argument 1.
 #[derive(Clone, Copy)]
@@ -9,39 +9,21 @@ pub struct TrackCall {
     pub n: u32,
 }
 
-// What is asked for; that the arguments are no call; or that one of them is wrong, which was said.
-#[derive(Clone, Copy)]
-pub enum TrackAsked {
-    For(TrackCall),
-    Usage,
-    Said,
-}
-
 // The frames to a decimetre: argument 4, 1 to 1,000; 1 if it is not given.
-fn rate(rt: &impl System) -> NumberAsked {
+fn rate(rt: &impl System) -> Result<u32, CallWrong> {
     if console::argument_count(rt) == 4 {
-        return NumberAsked::Is(1);
+        return Ok(1);
     }
     console::number_in(rt, b"track", b"N", 4, 1, 1000)
 }
 
-// The call with this pair.
-fn with_pair(rt: &impl System, s: u8, t: u8) -> TrackAsked {
-    match rate(rt) {
-        NumberAsked::Is(n) => TrackAsked::For(TrackCall { s, t, n }),
-        NumberAsked::Usage => TrackAsked::Usage,
-        NumberAsked::Said => TrackAsked::Said,
-    }
-}
-
 // The whole call.
-pub fn arguments(rt: &impl System) -> TrackAsked {
+pub fn arguments(rt: &impl System) -> Result<TrackCall, CallWrong> {
     let count = console::argument_count(rt);
     if (count != 4) & (count != 5) {
-        return TrackAsked::Usage;
+        return Err(CallWrong::Usage);
     }
-    let PairAsked::Is(s, t) = console::sync_pair(rt, b"track", 2) else {
-        return TrackAsked::Said;
-    };
-    with_pair(rt, s, t)
+    let (s, t) = console::sync_pair(rt, b"track", 2)?;
+    let n = rate(rt)?;
+    Ok(TrackCall { s, t, n })
 }

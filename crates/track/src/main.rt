@@ -10,9 +10,9 @@ mod going;
 mod saying;
 mod taking;
 
-use call::{TrackAsked, TrackCall};
-use console::System;
-use telegram::Pair;
+use call::TrackCall;
+use console::{CallWrong, System};
+use telegram::NotSeven;
 
 // Goes over the text twice: once for what is refused, once for the frames.
 fn feed(rt: &impl System, call: TrackCall) {
@@ -23,10 +23,9 @@ fn feed(rt: &impl System, call: TrackCall) {
 
 // The pair is judged before the text.
 fn answer(rt: &impl System, call: TrackCall) {
-    let pair = telegram::good_pair(call.s, call.t);
-    match pair {
-        Pair::Good => feed(rt, call),
-        Pair::NotSeven => console::refuse(rt, b"track", 4),
+    match telegram::good_pair(call.s, call.t) {
+        Ok(()) => feed(rt, call),
+        Err(NotSeven) => console::refuse(rt, b"track", 4),
     }
 }
 
@@ -35,8 +34,8 @@ fn main(rt: HostRuntime) {
         return;
     }
     match call::arguments(&rt) {
-        TrackAsked::For(call) => answer(&rt, call),
-        TrackAsked::Usage => console::usage(&rt, b"track", b"track FILE S S* [N]"),
-        TrackAsked::Said => {}
+        Ok(call) => answer(&rt, call),
+        Err(CallWrong::Usage) => console::usage(&rt, b"track", b"track FILE S S* [N]"),
+        Err(CallWrong::Said) => {}
     }
 }

@@ -17,9 +17,8 @@ use Rattle.contact.specs.History.{zeroes_of, zeroes, opens, closes}
 use Rattle.antenna.specs.Places.{more, places_after}
 use Rattle.antenna.specs.Sound.{begun, with_bit, marker_or, judged}
 use Rattle.antenna.specs.Hearing.{hear}
-use Rattle.recording.specs.declared.Last.{Last}
+use Rattle.std.specs.Prelude.{Some, None}
 use Rattle.recording.specs.declared.Tape.{Tape}
-use Rattle.recording.specs.declared.Came.{Came}
 use Rattle.recording.specs.Frame.{line_of, odometer_of, accepted_after}
 use Rattle.recording.specs.Recording.{fresh, held_at}
 use Rattle.recording.specs.Asking.{first_in, first_of, go_on, finish}
@@ -27,7 +26,7 @@ use Rattle.recording.specs.Contacts.{without_positions}
 use Rattle.recording_laws.specs.Calls.{GoOn, EndOf}
 use Rattle.recording_laws.specs.Recorded.{came, used, none, piece, no_more, Recorded}
 use Rattle.recording_laws.proofs.HearingMet.{outside_it}
-use Rattle.recording_laws.proofs.RecordedMet.{tape, at_first, no_bytes, answer, begins}
+use Rattle.recording_laws.proofs.RecordedMet.{tape, at_first, answer, begins}
 use Rattle.trace_text_laws.specs.Texts.{made}
 use Rattle.track_laws.proofs.TextMet.{store, pair, throughout}
 use Rattle.trace_text_laws.proofs.OneLine.{lent}
@@ -38,24 +37,24 @@ abbrev position : List ℕ
 position = 0 ∷ 0 ∷ 0 ∷ 10 ∷ 3 ∷ 0 ∷ 0 ∷ 0 ∷ []
 
 abbrev closed : Tape
-closed = tape (outside_it 4095) 1 0 (Last.At 0)
+closed = tape (outside_it 4095) 1 0 (Some 0)
 
 abbrev at_end : Tape
-at_end = tape (outside_it 65535) 10 0 (Last.At 10)
+at_end = tape (outside_it 65535) 10 0 (Some 10)
 
-marker_comes : GoOn at_first store lead 0 0 (answer closed 1 12 Came.Record marker)
+marker_comes : GoOn at_first store lead 0 0 (answer closed 1 12 (Some marker))
 unfolding go_on first_of first_in held_at hold asked stores.judged in_order_meant all_follow versions_of opened begin no_store_meant settings_of follows good_pair is_good differing held_from at.held_at hear history.after zeroes_of zeroes opens closes line_of odometer_of accepted_after begun with_bit more places_after marker_or judged are_syncs
 marker_comes = (([], tt), lent lead, (at_first, (store, (lent lead, (0, (0, tt))))), refl, refl)
 
-position_comes : GoOn closed store lead 1 12 (answer at_end 11 0 Came.Record position)
+position_comes : GoOn closed store lead 1 12 (answer at_end 11 0 (Some position))
 unfolding go_on first_of first_in held_at hold asked stores.judged in_order_meant all_follow versions_of opened begin no_store_meant settings_of follows good_pair is_good differing held_from at.held_at hear history.after zeroes_of zeroes opens closes line_of odometer_of accepted_after
 position_comes = (([], tt), lent lead, (closed, (store, (lent lead, (1, (12, tt))))), refl, refl)
 
-used_up : GoOn at_end store lead 11 0 (answer at_end 11 0 Came.Nothing no_bytes)
+used_up : GoOn at_end store lead 11 0 (answer at_end 11 0 None)
 unfolding go_on first_of
 used_up = (([], tt), lent lead, (at_end, (store, (lent lead, (11, (0, tt))))), refl, refl)
 
-no_further : EndOf at_end (record { tape = at_end; came = Came.Nothing; bytes = no_bytes })
+no_further : EndOf at_end (record { tape = at_end; came = None })
 unfolding finish
 no_further = ((at_end, tt), refl)
 

@@ -4,11 +4,12 @@
 -- The functions of `plan_text`, `typed_lines` and `lines`, `thing_at`, `put_record` and both
 -- `read`s always answer: what a line is that says no thing has no number.
 -- Assumes nothing.
-use Rattle.std.specs.Prelude.{ℕ, ◌≡◌, ◌&&◌, List, [], ◌∷◌, ltb}
+use Rattle.std.specs.Prelude.{ℕ, ◌≡◌, ◌&&◌, List, [], ◌∷◌, ltb, Result}
 use borrow.Fn.Kinds.{ended_of}
 use denote.Triple.Clauses.{AtExit}
 use Rattle.words.specs.Answer.{Answer, Outcome, refuses}
 use Rattle.telegram.specs.Says.{says_spelt}
+use Rattle.telegram.specs.declared.spelling.NotSpelt.{NotSpelt}
 use Rattle.telegram.specs.declared.spelling.Spelt.{Spelt}
 use Rattle.telegram.proofs.spell.Kinds as spell_kinds
 use Rattle.telegram.proofs.spell.Reads as spell_reads
@@ -28,7 +29,7 @@ use Rattle.demands.specs.Untouched.{Bare}
 use Rattle.track_laws.specs.Calls.{TakeLine}
 
 -- The contract of `telegram::spell` allows the answer r for these figures.
-abbrev pub Spell : ℕ → ℕ → ℕ → Spelt → Type 0
+abbrev pub Spell : ℕ → ℕ → ℕ → Result Spelt NotSpelt → Type 0
 Spell x y z r = (e : AtExit (ended_of 0 spell_kinds.ps spell_kinds.r) tt) × spell_reads.Post tt (x, (y, (z, tt))) r e
 
 -- The figures of a balise: 2, then 3.
@@ -49,7 +50,7 @@ take_rules way place thing =
     row_of (refused 18) (too_high place) ∷ row_of (refused 17) (ltb place way.last) ∷ row_of too_near (is_sent thing && is_near way.thing place) ∷ []
 
 pub record Demand1 : Type 0 where
-  pub spell : (x y z : ℕ) (r : Spelt) → Spell x y z r → Decided Given (figure_rules x y z) (says_spelt r)
+  pub spell : (x y z : ℕ) (r : Result Spelt NotSpelt) → Spell x y z r → Decided Given (figure_rules x y z) (says_spelt r)
   pub record_of : (place : ℕ) (what : What) (r : Recorded) → RecordOf place what r → Decided Given (what_rules what) (says_making_went r.how)
   pub take : (way : TrackWay) (place : ℕ) (thing : Thing) (r : Taken) → TakeLine way place thing r
       → Decided Given (take_rules way place thing) (says_taken r)

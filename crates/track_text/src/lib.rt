@@ -8,11 +8,12 @@ ghost use Rattle.track_text.specs.Read.{thing_at, read_said, read, balise};
 ghost use Rattle.telegram.specs.Spelling.{asked, spell};
 
 use lines::TextLine;
-use telegram::Spelt;
+use telegram::{NotSpelt, Spelt};
 use trace_text::{Said, What};
 use track_lead::Thing;
 
 // What a line says: nothing, a thing at a place in dm, or why it is none.
+// Stays as it is: a `Result<Option<..>, ..>` is no plainer, since a line has these ends side by side.
 #[derive(Clone, Copy)]
 pub enum Entry {
     Nothing,
@@ -26,14 +27,13 @@ pub enum Entry {
 fn balise(place: u32, x: u8, y: u16, z: u8) -> Entry
     ensures { result ≡ balise place (spell (asked x y z)) }
 {
-    let spelt = telegram::spell(x, y, z);
-    match spelt {
-        Spelt::Words { x: a, y: b, z: c } => Entry::At {
+    match telegram::spell(x, y, z) {
+        Ok(Spelt { x: a, y: b, z: c }) => Entry::At {
             place,
             thing: Thing::Balise { x: a, y: b, z: c },
         },
-        Spelt::TooLarge => Entry::TooLarge,
-        Spelt::Fifteen => Entry::Fifteen,
+        Err(NotSpelt::TooLarge) => Entry::TooLarge,
+        Err(NotSpelt::Fifteen) => Entry::Fifteen,
     }
 }
 

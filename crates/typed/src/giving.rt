@@ -10,64 +10,44 @@ pub enum Form {
     Plan,
 }
 
-// What a line gives: whether it has bytes, which they are, and what is wrong with it: 0 for
-// nothing, 1 for an unreadable line, else document 01's number.
-#[derive(Clone, Copy)]
-pub struct LineGives {
-    pub bytes: [u8; 8],
-    pub has: bool,
-    pub wrong: u8,
-}
-
-// No bytes.
-fn nothing(wrong: u8) -> LineGives {
-    LineGives {
-        bytes: [0, 0, 0, 0, 0, 0, 0, 0],
-        has: false,
-        wrong,
-    }
-}
-
-// These bytes.
-fn these(bytes: [u8; 8]) -> LineGives {
-    LineGives {
-        bytes,
-        has: true,
-        wrong: 0,
-    }
+// What is wrong with a line: it is unreadable, or refused by document 01's number.
+#[derive(Clone, Copy, PartialEq, Eq)]
+pub enum LineWrong {
+    Unreadable,
+    Refused(u8),
 }
 
 // A record, or why there is none.
-fn recorded(made: Recorded) -> LineGives {
+fn recorded(made: Recorded) -> Result<[u8; 8], LineWrong> {
     let bytes = made.bytes;
     let how = made.how;
     match how {
-        trace_text::MakingWent::Made => these(bytes),
-        trace_text::MakingWent::TooLarge => nothing(2),
-        trace_text::MakingWent::Fifteen => nothing(3),
+        trace_text::MakingWent::Made => Ok(bytes),
+        trace_text::MakingWent::TooLarge => Err(LineWrong::Refused(2)),
+        trace_text::MakingWent::Fifteen => Err(LineWrong::Refused(3)),
     }
 }
 
 // What a line of a trace gives.
-fn of_trace(said: Said) -> LineGives {
+fn of_trace(said: Said) -> Result<Option<[u8; 8]>, LineWrong> {
     match said {
-        Said::Nothing => nothing(0),
-        Said::Thing { place, what } => recorded(trace_text::record_of(place, what)),
-        Said::Unreadable => nothing(1),
+        Said::Nothing => Ok(None),
+        Said::Thing { place, what } => Ok(Some(recorded(trace_text::record_of(place, what))?)),
+        Said::Unreadable => Err(LineWrong::Unreadable),
     }
 }
 
 // What a line of a plan gives.
-fn of_plan(entry: Entry) -> LineGives {
+fn of_plan(entry: Entry) -> Result<Option<[u8; 8]>, LineWrong> {
     match entry {
-        Entry::Nothing => nothing(0),
-        Entry::At { place, kind } => these(plan_text::entry_of(place, kind)),
-        Entry::Unreadable => nothing(1),
+        Entry::Nothing => Ok(None),
+        Entry::At { place, kind } => Ok(Some(plan_text::entry_of(place, kind))),
+        Entry::Unreadable => Err(LineWrong::Unreadable),
     }
 }
 
-// What a line gives.
-pub fn of_line(form: Form, line: TextLine) -> LineGives {
+// The bytes that a line gives, if it gives any.
+pub fn of_line(form: Form, line: TextLine) -> Result<Option<[u8; 8]>, LineWrong> {
     match form {
         Form::Trace => of_trace(trace_text::read(line)),
         Form::Plan => of_plan(plan_text::read(line)),

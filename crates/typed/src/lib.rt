@@ -11,52 +11,45 @@ mod giving;
 mod going;
 mod telling;
 
-use console::{CardsFound, Source, System};
+use console::{Source, System};
 pub use giving::Form;
-use going::{PassGoes, TypedSoFar};
+use going::PassWrong;
 
 // The argument of the file.
 const FILE: usize = 1;
 
-// Says what a pass found, and answers whether all was well.
-fn is_well(rt: &impl System, program: &[u8], done: TypedSoFar) -> bool {
-    let how = done.how;
-    match how {
-        PassGoes::On => {}
-        PassGoes::Whole => {}
-        PassGoes::CannotRead => {
-            console::cannot_read(rt, program, FILE);
-            return false;
-        }
-        PassGoes::CannotWrite => {
-            console::cannot_write(rt, program);
-            return false;
-        }
+// Says why a pass ended before the text did.
+fn say(rt: &impl System, program: &[u8], wrong: PassWrong) {
+    match wrong {
+        PassWrong::Line { number, wrong } => telling::say_line(rt, program, number, wrong),
+        PassWrong::CannotRead => console::cannot_read(rt, program, FILE),
+        PassWrong::CannotWrite => console::cannot_write(rt, program),
     }
-    if done.wrong > 0 {
-        telling::say_line(rt, program, done.number, done.wrong);
-        return false;
+}
+
+// The second pass, over an open file that is begun again.
+fn again(rt: &impl System, program: &[u8], form: Form, file: &mut Source) {
+    if !console::to_start(file) {
+        console::only_once(rt, program, FILE);
+        return;
     }
-    true
+    if let Err(wrong) = going::pass(rt, form, file, true) {
+        say(rt, program, wrong);
+    }
 }
 
 // Goes over the open file twice.
 fn twice(rt: &impl System, program: &[u8], form: Form, file: &mut Source) {
-    let first = going::pass(rt, form, file, false);
-    let things = first.things;
-    if !is_well(rt, program, first) {
-        return;
+    match going::pass(rt, form, file, false) {
+        Ok(things) => {
+            if giving::are_too_many(form, things) {
+                console::refuse(rt, program, 26);
+            } else {
+                again(rt, program, form, file);
+            }
+        }
+        Err(wrong) => say(rt, program, wrong),
     }
-    if giving::are_too_many(form, things) {
-        console::refuse(rt, program, 26);
-        return;
-    }
-    if !console::to_start(file) {
-        console::say_found(rt, program, CardsFound::Once(FILE));
-        return;
-    }
-    let second = going::pass(rt, form, file, true);
-    is_well(rt, program, second);
 }
 
 // The file named, made into bytes.

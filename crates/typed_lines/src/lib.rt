@@ -1,9 +1,9 @@
 // The lines of a text in an open file, one after the other, for the programs that take a text:
 // `trace`, `plan`, `track`.
 // 1. `begin()` is before the first line. `next(rt, file, pass, block)` answers the next line of the
-//    file with its number (`Line`), what stands after the last newline too, even if that is empty;
-//    or that no line is left (`End`), or that a read failed (`CannotRead`). `block` is any buffer
-//    of three bytes at least, and each call is lent the same one, unchanged.
+//    file with its number, what stands after the last newline too, even if that is empty; nothing
+//    where no line is left; or that a read failed (`CannotRead`). `block` is any buffer of three
+//    bytes at least, and each call is lent the same one, unchanged.
 // 2. `fail_line(rt, program, number, words)` and `refuse_line(rt, program, number, refusal)` say
 //    what is wrong with a line: `trace: line 3 unreadable`, `trace: line 3 refused 2: WORDS`.
 // Promises: it is safe and it ends, in the same memory for a file of any size. What is kept of a
@@ -30,21 +30,16 @@ pub struct TextPass {
     is_over: bool,
 }
 
-// What comes: a line, the end of the text, or that it cannot be read.
-#[derive(Clone, Copy)]
-pub enum LineCame {
-    Line,
-    End,
-    CannotRead,
-}
+// That the text cannot be read.
+#[derive(Clone, Copy, PartialEq, Eq)]
+pub struct CannotRead;
 
-// The pass after it, the line and its number.
+// A line, its number, and the pass after it.
 #[derive(Clone, Copy)]
 pub struct NextLine {
     pub pass: TextPass,
     pub line: TextLine,
     pub number: u64,
-    pub how: LineCame,
 }
 
 // Before the first line of an open file.
@@ -104,28 +99,19 @@ fn one_line(pass: TextPass, got: Got, is_over: bool) -> NextLine {
         },
         line,
         number,
-        how: LineCame::Line,
     }
 }
 
-// No line.
-fn no_line(pass: TextPass, how: LineCame) -> NextLine {
-    let number = pass.number;
-    let reader = pass.reader;
-    let line = reader.line;
-    NextLine {
-        pass,
-        line,
-        number,
-        how,
-    }
-}
-
-// The first block.
-fn first_block(rt: &impl System, file: &mut Source, pass: TextPass, block: &mut [u8]) -> NextLine {
+// The first line, after the first block is read.
+fn first_line(
+    rt: &impl System,
+    file: &mut Source,
+    pass: TextPass,
+    block: &mut [u8],
+) -> Result<NextLine, CannotRead> {
     let got = console::fill(rt, file, block);
     if got.failed {
-        return no_line(pass, LineCame::CannotRead);
+        return Err(CannotRead);
     }
     let at = start_of(block, got.count);
     let reader = pass.reader;
@@ -138,38 +124,46 @@ fn last_line(reader: Reader) -> Got {
 }
 
 // The next line, block after block. A proved loop has to end, and nothing says that a file does: so
-// it counts its turns down from a number that no run uses up.
-fn on(rt: &impl System, file: &mut Source, pass: TextPass, block: &mut [u8]) -> NextLine {
+// it takes no more turns than no run uses up.
+fn on(
+    rt: &impl System,
+    file: &mut Source,
+    pass: TextPass,
+    block: &mut [u8],
+) -> Result<NextLine, CannotRead> {
     let mut here = pass;
-    let mut turns = u64::MAX;
-    while turns > 0 {
+    for _ in 0..u64::MAX {
         let reader = here.reader;
         let got = in_block(reader, block, here.count, here.at);
         if got.ends {
-            return one_line(here, got, false);
+            return Ok(one_line(here, got, false));
         }
         let after = got.reader;
         let more = console::fill(rt, file, block);
         let count = more.count;
         if more.failed {
-            return no_line(here, LineCame::CannotRead);
+            return Err(CannotRead);
         }
         if count == 0 {
-            return one_line(here, last_line(after), true);
+            return Ok(one_line(here, last_line(after), true));
         }
         here = with_block(here, after, count, 0);
-        turns -= 1;
     }
-    no_line(here, LineCame::CannotRead)
+    Err(CannotRead)
 }
 
-// The next line.
-pub fn next(rt: &impl System, file: &mut Source, pass: TextPass, block: &mut [u8]) -> NextLine {
+// The next line, if one is left.
+pub fn next(
+    rt: &impl System,
+    file: &mut Source,
+    pass: TextPass,
+    block: &mut [u8],
+) -> Result<Option<NextLine>, CannotRead> {
     if pass.is_over {
-        return no_line(pass, LineCame::End);
+        return Ok(None);
     }
     if !pass.is_begun {
-        return first_block(rt, file, pass, block);
+        return Ok(Some(first_line(rt, file, pass, block)?));
     }
-    on(rt, file, pass, block)
+    Ok(Some(on(rt, file, pass, block)?))
 }

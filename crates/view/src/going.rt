@@ -3,7 +3,7 @@ ghost use Rattle.std.specs.Prelude.{◌+◌, ◌/◌, ◌<◌, ◌≤◌};
 
 use console::System;
 use ride::Ride;
-use ride_text::{Done, REASONS};
+use ride_text::REASONS;
 use settings::Store;
 use viewer::{Moved, Standing};
 
@@ -42,10 +42,10 @@ fn write_block(
     let listed = ride_text::list(REASONS, ride, store, number, records, out);
     let done = listed.done;
     let after = listed.ride;
-    let Done::Took { records: _, bytes } = done else {
+    let Ok(took) = done else {
         return after;
     };
-    console::put(rt, b"view", out, bytes);
+    console::put(rt, b"view", out, took.bytes);
     after
 }
 
@@ -56,6 +56,7 @@ fn write_passed(rt: &impl System, trace: &[u8], from: Standing, number: usize) {
     let mut out = [0u8; 65536];
     let mut ride = from.ride;
     let mut at = from.number;
+    // Stays as it is: the new form is no plainer, a turn goes on to where `end_of` says.
     while at < to {
         let end = end_of(at, to);
         let first = at as u64 + 1;

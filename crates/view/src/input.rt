@@ -12,21 +12,14 @@ pub struct InputLine {
     pub is_long: bool,
 }
 
-// A byte, or the end of the input.
-#[derive(Clone, Copy)]
-struct InputByte {
-    byte: u8,
-    is_end: bool,
-}
-
-// The next byte.
-fn read_one(rt: &impl System) -> InputByte {
+// The next byte, if the input has not ended.
+fn read_one(rt: &impl System) -> Option<u8> {
     let mut one = [0u8; 1];
     let got = read_some(rt, &mut Source::Given, &mut one);
-    InputByte {
-        byte: one[0],
-        is_end: got.count < 1,
+    if got.count < 1 {
+        return None;
     }
+    Some(one[0])
 }
 
 // The byte after so many that stand in buf, if it has room, and how many there are then.
@@ -52,27 +45,27 @@ fn line_of(count: usize, room: usize) -> InputLine
     }
 }
 
-// The next line, without its newline, into buf. The last one may lack its newline. No run uses up
-// the turns.
+// The next line, without its newline, into buf. The last one may lack its newline. It takes no more
+// turns than no run uses up.
 pub fn next(rt: &impl System, buf: &mut [u8]) -> InputLine
     ensures { result.count ≤ length buf.old }
 {
     let mut count: usize = 0;
-    let mut turns = u64::MAX;
-    while turns > 0 {
-        let got = read_one(rt);
-        if got.is_end & (count == 0) {
-            return InputLine {
-                count: 0,
-                is_end: true,
-                is_long: false,
-            };
+    for _ in 0..u64::MAX {
+        match read_one(rt) {
+            Some(b'\n') => break,
+            Some(byte) => count = keep(byte, buf, count),
+            None => {
+                if count == 0 {
+                    return InputLine {
+                        count: 0,
+                        is_end: true,
+                        is_long: false,
+                    };
+                }
+                break;
+            }
         }
-        if got.is_end | (got.byte == b'\n') {
-            break;
-        }
-        count = keep(got.byte, buf, count);
-        turns -= 1;
     }
     line_of(count, buf.len())
 }

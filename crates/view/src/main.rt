@@ -18,16 +18,9 @@ mod reading;
 mod screen;
 mod session;
 
-use console::{CardsFound, FigureAsked, OptionsWent, System};
+use console::{CallWrong, CardsWrong, Said, StoreOf, System};
 use reading::Start;
 use settings::Store;
-
-// Where the ride begins by the arguments, or that what is wrong with them was said.
-#[derive(Clone, Copy)]
-enum StartGiven {
-    With(Start),
-    Said,
-}
 
 // The line for wrong or missing arguments.
 fn usage(rt: &impl System) {
@@ -38,15 +31,11 @@ fn usage(rt: &impl System) {
 fn look(rt: &impl System, store: Store, start: Start, first: usize) {
     let mut lengths = [0u64; 8192];
     let mut block = [0u8; 65536];
-    let found = console::go_over(rt, first, &mut lengths, &mut block);
-    match found {
-        CardsFound::Cards => opening::open(rt, store, start, first, &lengths),
-        CardsFound::BadLength(_) => console::refuse_trace(rt, b"view"),
-        CardsFound::NoCard => usage(rt),
-        CardsFound::TooMany => console::say_found(rt, b"view", found),
-        CardsFound::CannotOpen(_) => console::say_found(rt, b"view", found),
-        CardsFound::CannotRead(_) => console::say_found(rt, b"view", found),
-        CardsFound::Once(_) => console::say_found(rt, b"view", found),
+    match console::go_over(rt, first, &mut lengths, &mut block) {
+        Ok(()) => opening::open(rt, store, start, first, &lengths),
+        Err(CardsWrong::BadLength(_)) => console::refuse_trace(rt, b"view"),
+        Err(CardsWrong::NoCard) => usage(rt),
+        Err(wrong) => console::say_found(rt, b"view", Err(wrong)),
     }
 }
 
@@ -69,15 +58,13 @@ fn is_word(word: &[u8]) -> bool {
 
 // Where the ride begins by this argument, the place after `-from`; where it is missing or no figure
 // that is said.
-fn begins(rt: &impl System, argument: usize) -> StartGiven {
+fn begins(rt: &impl System, argument: usize) -> Result<Start, Said> {
     if console::argument_count(rt) <= argument {
         usage(rt);
-        return StartGiven::Said;
+        return Err(Said);
     }
-    let FigureAsked::Is(place) = console::figure(rt, b"view", b"PLACE", argument, u64::MAX) else {
-        return StartGiven::Said;
-    };
-    StartGiven::With(Start::At { place, argument })
+    let place = console::figure(rt, b"view", b"PLACE", argument, u64::MAX)?;
+    Ok(Start::At { place, argument })
 }
 
 // The cards from this argument on, after the settings; `-from PLACE` may stand before them, where
@@ -93,7 +80,7 @@ fn after_settings(rt: &impl System, store: Store, start: Start, first: usize)
         look(rt, store, start, first);
         return;
     }
-    let StartGiven::With(later) = begins(rt, first + 1) else {
+    let Ok(later) = begins(rt, first + 1) else {
         return;
     };
     look(rt, store, later, first + 2);
@@ -101,15 +88,17 @@ fn after_settings(rt: &impl System, store: Store, start: Start, first: usize)
 
 // The settings from this argument on, if there are any, and then the cards.
 fn go_on(rt: &impl System, start: Start, at: u8) {
-    let asked = console::options_at(rt, b"view", false, at);
-    let store = asked.store;
-    let first = asked.first;
-    let how = asked.how;
-    match how {
-        OptionsWent::Plain => look(rt, store, start, first),
-        OptionsWent::Settings => after_settings(rt, store, start, first),
-        OptionsWent::Usage => usage(rt),
-        OptionsWent::Said => {}
+    match console::options_at(rt, b"view", false, at) {
+        Ok(asked) => {
+            let store = asked.store;
+            let of = asked.of;
+            match of {
+                StoreOf::Plain => look(rt, store, start, asked.first),
+                StoreOf::Settings => after_settings(rt, store, start, asked.first),
+            }
+        }
+        Err(CallWrong::Usage) => usage(rt),
+        Err(CallWrong::Said) => {}
     }
 }
 
@@ -119,7 +108,7 @@ fn main(rt: HostRuntime) {
         go_on(&rt, Start::First, 1);
         return;
     }
-    let StartGiven::With(start) = begins(&rt, 2) else {
+    let Ok(start) = begins(&rt, 2) else {
         return;
     };
     go_on(&rt, start, 3);

@@ -6,11 +6,6 @@ pub fn to_start(buf: &mut [u8], from: usize, to: usize) -> usize
     requires { (from ≤ to) × (to ≤ length buf.old) }
     ensures { result ≡ to - from }
 {
-    let count = to - from;
-    let mut k: usize = 0;
-    while k < count {
-        buf[k] = buf[from + k];
-        k += 1;
-    }
-    count
+    buf.copy_within(from..to, 0);
+    to - from
 }

@@ -1,8 +1,8 @@
 // The records that the cards hold, looked at.
 use crate::out::Note;
-use crate::reading::{Filling, Start};
+use crate::reading::{NotFilled, Start};
 use crate::{reading, session};
-use console::System;
+use console::{Goes, System};
 use settings::Store;
 
 // Says that there is more than the buffer has room for, and what can be done.
@@ -45,9 +45,9 @@ pub fn open(rt: &impl System, store: Store, start: Start, first: usize, lengths:
     let bytes = step.have;
     let how = step.how;
     match how {
-        Filling::More => {}
-        Filling::Whole => look(rt, store, start, step.before, &trace[..bytes]),
-        Filling::TooLong => say_too_long(rt, start),
-        Filling::Failed => {}
+        Ok(Goes::More) => {}
+        Ok(Goes::End) => look(rt, store, start, step.before, &trace[..bytes]),
+        Err(NotFilled::TooLong) => say_too_long(rt, start),
+        Err(NotFilled::Failed) => {}
     }
 }

@@ -4,7 +4,7 @@ ghost use Rattle.std.specs.Prelude.{◌≡◌, ◌≤◌, length};
 
 use crate::going::smaller;
 use crate::moving::to_start;
-use console::{Goes, Pass, System};
+use console::{Goes, Pass, PassFailed, System};
 
 // Where a ride begins: with the first record, or with the first at or past the place that an
 // argument names.
@@ -14,12 +14,10 @@ pub enum Start {
     At { place: u64, argument: usize },
 }
 
-// How filling the buffer goes on: more may come; all was read; there is more than it has room for;
-// or a card failed, and that was said.
-#[derive(Clone, Copy)]
-pub enum Filling {
-    More,
-    Whole,
+// Why filling the buffer ended before all was read: there is more than it has room for; or a card
+// failed, and that was said.
+#[derive(Clone, Copy, PartialEq, Eq)]
+pub enum NotFilled {
     TooLong,
     Failed,
 }
@@ -31,7 +29,7 @@ pub struct FilledSoFar {
     pass: Pass,
     pub have: usize,
     pub before: u64,
-    pub how: Filling,
+    pub how: Result<Goes, NotFilled>,
 }
 
 // Room for the longest trace.
@@ -42,29 +40,14 @@ pub fn room() -> [u8; 4194304]
 }
 
 // How filling goes on after a block; what failed is said.
-fn judged(rt: &impl System, how: Goes) -> Filling {
+fn judged(rt: &impl System, how: Result<Goes, PassFailed>) -> Result<Goes, NotFilled> {
     match how {
-        Goes::More => Filling::More,
-        Goes::End => Filling::Whole,
-        Goes::NoRoom => Filling::TooLong,
-        Goes::CannotOpen(number) => {
-            console::cannot_open(rt, b"view", number);
-            Filling::Failed
+        Ok(goes) => Ok(goes),
+        Err(PassFailed::NoRoom) => Err(NotFilled::TooLong),
+        Err(_) => {
+            console::say_goes(rt, b"view", how);
+            Err(NotFilled::Failed)
         }
-        Goes::CannotRead(number) => {
-            console::cannot_read(rt, b"view", number);
-            Filling::Failed
-        }
-    }
-}
-
-// Whether more may come.
-fn is_more(how: Filling) -> bool {
-    match how {
-        Filling::More => true,
-        Filling::Whole => false,
-        Filling::TooLong => false,
-        Filling::Failed => false,
     }
 }
 
@@ -101,12 +84,12 @@ fn begin(first: usize) -> FilledSoFar
         pass,
         have: 0,
         before: 0,
-        how: Filling::More,
+        how: Ok(Goes::More),
     }
 }
 
 // The first block that has a record at or past the place, but for those that will be refused, from
-// that record on; the blocks before it are passed over. No run uses up the turns.
+// that record on; the blocks before it are passed over. It takes no more turns than no run uses up.
 fn begin_at(
     rt: &impl System,
     first: usize,
@@ -118,8 +101,7 @@ fn begin_at(
 {
     let most = smaller(trace.len(), 65536);
     let mut step = begin(first);
-    let mut turns = u64::MAX;
-    while turns > 0 {
+    for _ in 0..u64::MAX {
         let pass = step.pass;
         let before = step.before;
         step = next(rt, pass, before, lengths, &mut trace[..most], 0);
@@ -133,29 +115,26 @@ fn begin_at(
         step.before = std::num::wrapping_add_u64(before, (count / 8) as u64);
         step.have = 0;
         let how = step.how;
-        if !is_more(how) {
+        let Ok(Goes::More) = how else {
             return step;
-        }
-        turns -= 1;
+        };
     }
     step
 }
 
-// The blocks after it, as long as there is room. No run uses up the turns.
+// The blocks after it, as long as there is room. It takes no more turns than no run uses up.
 fn fill(rt: &impl System, begun: FilledSoFar, lengths: &[u64], trace: &mut [u8]) -> FilledSoFar
     requires { begun.have ≤ length trace.old }
     ensures { result.have ≤ length trace.old }
 {
     let mut step = begun;
-    let mut turns = u64::MAX;
-    while turns > 0 {
+    for _ in 0..u64::MAX {
         let how = step.how;
-        if !is_more(how) {
+        let Ok(Goes::More) = how else {
             return step;
-        }
+        };
         let pass = step.pass;
         step = next(rt, pass, step.before, lengths, trace, step.have);
-        turns -= 1;
     }
     step
 }

@@ -7,7 +7,7 @@ use crate::moving::to_start;
 use crate::out::put_stand;
 use console::System;
 use ride::Ride;
-use ride_text::{Done, REASONS};
+use ride_text::REASONS;
 use settings::Store;
 use viewer::Standing;
 
@@ -39,10 +39,10 @@ fn go_on(
     let listed = ride_text::list(REASONS, ride, store, number, records, &mut buf[have..]);
     let done = listed.done;
     let after = listed.ride;
-    let Done::Took { records: _, bytes } = done else {
+    let Ok(took) = done else {
         return LastLines { ride: after, have };
     };
-    let end = have + smaller(bytes, buf.len() - have);
+    let end = have + smaller(took.bytes, buf.len() - have);
     let from = viewer_text::last_lines(&buf[..end], LINES);
     let left = to_start(buf, smaller(from, end), end);
     LastLines {
@@ -61,6 +61,7 @@ fn last_lines(trace: &[u8], stand: Standing, buf: &mut [u8]) -> usize
     let mut ride = ride::fresh();
     let mut have: usize = 0;
     let mut at: usize = 0;
+    // Stays as it is: the new form is no plainer, a turn goes on to where `end_of` says.
     while at < to {
         let end = end_of(at, to);
         let first = at as u64 + 1;
@@ -83,10 +84,8 @@ fn put_last(trace: &[u8], stand: Standing, page: &mut [u8], at: usize) -> usize 
 fn put_around(trace: &[u8], number: usize, page: &mut [u8], at: usize) -> usize {
     let first = viewer_text::first_around(number, trace.len() / 8);
     let mut next = at;
-    let mut k: usize = 0;
-    while k < RECORDS {
+    for k in 0..RECORDS {
         next = put_one(trace, first, k, number, page, next);
-        k += 1;
     }
     next
 }

@@ -7,8 +7,8 @@ use crate::out::Note;
 use crate::{input, out, screen};
 use console::System;
 use settings::Store;
-use viewer::{Ending, Moved, OpeningWent, Standing};
-use viewer_text::{Command, SoughtLine};
+use viewer::{Moved, NoStep, Standing};
+use viewer_text::Command;
 
 // What a command comes to: where the viewer then stands, and what is noted.
 #[derive(Clone, Copy)]
@@ -26,12 +26,12 @@ struct Order {
 
 // Why a move ended: the refusal of the next step, if it would be refused. An opened viewer's
 // settings are good, so 22 or 23.
-fn noted(ending: Ending) -> Note {
+fn noted(ending: Result<(), NoStep>) -> Note {
     match ending {
-        Ending::All => Note::Nothing,
-        Ending::NothingKept => Note::Refused(22),
-        Ending::AtEnd => Note::Refused(23),
-        Ending::Settings(_) => Note::Nothing,
+        Ok(()) => Note::Nothing,
+        Err(NoStep::NothingKept) => Note::Refused(22),
+        Err(NoStep::AtEnd) => Note::Refused(23),
+        Err(NoStep::Settings(_)) => Note::Nothing,
     }
 }
 
@@ -61,8 +61,8 @@ fn find(rt: &impl System, trace: &[u8], stand: Standing, word: &[u8], on_screen:
     let store = stand.settings;
     let sought = viewer_text::seek(trace, stand.number, ride, store, word);
     match sought {
-        SoughtLine::After(times) => moved_to(forth(rt, trace, stand, times, on_screen)),
-        SoughtLine::Nowhere => CameTo {
+        Some(times) => moved_to(forth(rt, trace, stand, times, on_screen)),
+        None => CameTo {
             stand,
             note: Note::NoLine,
         },
@@ -151,15 +151,14 @@ fn ask(rt: &impl System, last: Command, word: &mut [u8], letters: usize) -> Orde
     }
 }
 
-// The commands up to `q`, the end of the input, or where nothing can be written any more. No run
-// uses up the turns.
+// The commands up to `q`, the end of the input, or where nothing can be written any more. It takes
+// no more turns than no run uses up.
 fn obey_all(rt: &impl System, trace: &[u8], first: Standing, on_screen: bool) {
     let mut stand = first;
     let mut last = Command::Unknown;
     let mut word = [0u8; 256];
     let mut letters: usize = 0;
-    let mut turns = u64::MAX;
-    while turns > 0 {
+    for _ in 0..u64::MAX {
         let order = ask(rt, last, &mut word, letters);
         let command = order.command;
         letters = order.letters;
@@ -173,7 +172,6 @@ fn obey_all(rt: &impl System, trace: &[u8], first: Standing, on_screen: bool) {
         if !show(rt, trace, stand, note, &word[..letters], on_screen) {
             return;
         }
-        turns -= 1;
     }
 }
 
@@ -182,7 +180,7 @@ pub fn hold(rt: &impl System, store: Store, trace: &[u8], begun: Note) {
     let opened = viewer::start_at(store, trace);
     let stand = opened.stand;
     let how = opened.begun;
-    let OpeningWent::Open = how else {
+    let Ok(()) = how else {
         console::refuse_trace(rt, b"view");
         return;
     };

@@ -12,12 +12,13 @@ use Rattle.settings.specs.declared.Store.{Store}
 use Rattle.settings.proofs.Determined.{bad_of}
 use Rattle.ride.specs.declared.Lines.{Lines}
 use Rattle.ride.proofs.Determined.{lines_of, lines_back}
-use Rattle.viewer.specs.declared.OpeningWent.{OpeningWent}
-use Rattle.viewer.specs.declared.CallWent.{CallWent}
+use Rattle.ride.specs.declared.TraceRefused.{TraceRefused}
+use Rattle.ride.proofs.Determined.{trace_refused_of, trace_refused_back}
+use Rattle.std.specs.Prelude.{Result, Ok, Err}
+use Rattle.viewer.specs.declared.NoStep.{NoStep}
 use Rattle.viewer.specs.declared.Opened.{Opened}
 use Rattle.viewer.specs.declared.Went.{Went}
 use Rattle.viewer.specs.declared.Came.{Came}
-use Rattle.viewer.specs.declared.Ending.{Ending}
 use Rattle.viewer.specs.declared.Moved.{Moved}
 use Rattle.viewer.specs.declared.Viewer.{Viewer}
 use Rattle.viewer.specs.declared.Started.{Started}
@@ -25,7 +26,7 @@ use Rattle.viewer.specs.declared.Forwarded.{Forwarded}
 use Rattle.viewer.specs.declared.Backed.{Backed}
 use Rattle.viewer.specs.Viewing.{Done, Start, Forward, Back}
 use Rattle.viewer.specs.Going.{Ending as Ends, all, refused, Moved as Moves}
-use Rattle.viewer.specs.Says.{says_opening_went, says_call_went, says_opened, says_went, says_came, says_ending, says_moved, slice_of, Holding, Over, says_forwarded, says_backed, says_started}
+use Rattle.viewer.specs.Says.{says_opening_went, says_no_step, says_call_went, says_opened, says_went, says_came, says_ending, says_moved, slice_of, Holding, Over, says_forwarded, says_backed, says_started}
 use Rattle.viewer.specs.Laws.{Starts, Forwards, Backs}
 use Rattle.viewer.proofs.opening.start_at.Kinds as start_at_kinds
 use Rattle.viewer.proofs.opening.start_at.Reads as start_at_reads
@@ -42,38 +43,39 @@ use Rattle.viewer.proofs.going.backs_at.Reads as backs_at_reads
 use Rattle.words.proofs.Told.{Fixed}
 
 -- From what an answer says, the answer.
-abbrev pub begun_of : Outcome Done → OpeningWent
-begun_of (gives d) = OpeningWent.Open
-begun_of (refuses n) = pick (eqb n 16) OpeningWent.Length (OpeningWent.Settings (bad_of n))
+abbrev pub begun_of : Outcome Done → Result (Unit {0}) TraceRefused
+begun_of (gives d) = Ok tt
+begun_of (refuses n) = Err (trace_refused_of n)
 
-pub begun_back : (b : OpeningWent) → begun_of (says_opening_went b) ≡ b
-begun_back OpeningWent.Open = refl
-begun_back OpeningWent.Length = refl
-begun_back (OpeningWent.Settings Bad.Pair) = refl
-begun_back (OpeningWent.Settings Bad.Gap) = refl
-begun_back (OpeningWent.Settings Bad.TooHigh) = refl
-begun_back (OpeningWent.Settings Bad.NotAbove) = refl
-begun_back (OpeningWent.Settings Bad.Full) = refl
+pub begun_back : (b : Result (Unit {0}) TraceRefused) → begun_of (says_opening_went b) ≡ b
+begun_back (Ok tt) = refl
+begun_back (Err r) = ap Err (trace_refused_back r)
 
-abbrev pub how_of : Outcome Done → CallWent
-how_of (gives d) = CallWent.Done
-how_of (refuses n) = pick (eqb n 22) CallWent.NothingKept (pick (eqb n 23) CallWent.AtEnd (CallWent.Settings (bad_of n)))
+abbrev no_step_of : ℕ → NoStep
+no_step_of n = pick (eqb n 22) NoStep.NothingKept (pick (eqb n 23) NoStep.AtEnd (NoStep.Settings (bad_of n)))
 
-pub how_back : (h : CallWent) → how_of (says_call_went h) ≡ h
-how_back CallWent.Done = refl
-how_back CallWent.NothingKept = refl
-how_back CallWent.AtEnd = refl
-how_back (CallWent.Settings Bad.Pair) = refl
-how_back (CallWent.Settings Bad.Gap) = refl
-how_back (CallWent.Settings Bad.TooHigh) = refl
-how_back (CallWent.Settings Bad.NotAbove) = refl
-how_back (CallWent.Settings Bad.Full) = refl
+no_step_back : (why : NoStep) → no_step_of (says_no_step why) ≡ why
+no_step_back NoStep.NothingKept = refl
+no_step_back NoStep.AtEnd = refl
+no_step_back (NoStep.Settings Bad.Pair) = refl
+no_step_back (NoStep.Settings Bad.Gap) = refl
+no_step_back (NoStep.Settings Bad.TooHigh) = refl
+no_step_back (NoStep.Settings Bad.NotAbove) = refl
+no_step_back (NoStep.Settings Bad.Full) = refl
+
+abbrev pub how_of : Outcome Done → Result (Unit {0}) NoStep
+how_of (gives d) = Ok tt
+how_of (refuses n) = Err (no_step_of n)
+
+pub how_back : (h : Result (Unit {0}) NoStep) → how_of (says_call_went h) ≡ h
+how_back (Ok tt) = refl
+how_back (Err why) = ap Err (no_step_back why)
 
 abbrev opened_of : Start → Opened
 opened_of s = record { stand = s.stand; begun = begun_of s.answer }
 
 opened_back : (trace : List ℕ) (o : Opened) → opened_of (says_opened o trace) ≡ o
-opened_back trace o = ap (λ (b : OpeningWent). record { stand = o.stand; begun = b }) (begun_back o.begun)
+opened_back trace o = ap (λ (b : Result (Unit {0}) TraceRefused). record { stand = o.stand; begun = b }) (begun_back o.begun)
 
 abbrev went_of : Forward → Went
 went_of f = record { stand = f.stand; lines = lines_of f.lines; closed = f.closed; how = how_of f.answer }
@@ -81,33 +83,27 @@ went_of f = record { stand = f.stand; lines = lines_of f.lines; closed = f.close
 went_back : (w : Went) → went_of (says_went w) ≡ w
 went_back w =
     ap (λ (ls : Lines). record { stand = w.stand; lines = ls; closed = w.closed; how = how_of (says_call_went w.how) }) (lines_back w.lines)
-    ∙ ap (λ (h : CallWent). record { stand = w.stand; lines = w.lines; closed = w.closed; how = h }) (how_back w.how)
+    ∙ ap (λ (h : Result (Unit {0}) NoStep). record { stand = w.stand; lines = w.lines; closed = w.closed; how = h }) (how_back w.how)
 
 abbrev came_of : Back → Came
 came_of b = record { stand = b.stand; how = how_of b.answer }
 
 came_back : (c : Came) → came_of (says_came c) ≡ c
-came_back c = ap (λ (h : CallWent). record { stand = c.stand; how = h }) (how_back c.how)
+came_back c = ap (λ (h : Result (Unit {0}) NoStep). record { stand = c.stand; how = h }) (how_back c.how)
 
-abbrev ending_of : Ends → Ending
-ending_of all = Ending.All
-ending_of (refused n) = pick (eqb n 22) Ending.NothingKept (pick (eqb n 23) Ending.AtEnd (Ending.Settings (bad_of n)))
+abbrev ending_of : Ends → Result (Unit {0}) NoStep
+ending_of all = Ok tt
+ending_of (refused n) = Err (no_step_of n)
 
-ending_back : (e : Ending) → ending_of (says_ending e) ≡ e
-ending_back Ending.All = refl
-ending_back Ending.NothingKept = refl
-ending_back Ending.AtEnd = refl
-ending_back (Ending.Settings Bad.Pair) = refl
-ending_back (Ending.Settings Bad.Gap) = refl
-ending_back (Ending.Settings Bad.TooHigh) = refl
-ending_back (Ending.Settings Bad.NotAbove) = refl
-ending_back (Ending.Settings Bad.Full) = refl
+ending_back : (e : Result (Unit {0}) NoStep) → ending_of (says_ending e) ≡ e
+ending_back (Ok tt) = refl
+ending_back (Err why) = ap Err (no_step_back why)
 
 abbrev moved_of : Moves → Moved
 moved_of m = record { stand = m.stand; steps = m.steps; ending = ending_of m.ending }
 
 moved_back : (m : Moved) → moved_of (says_moved m) ≡ m
-moved_back m = ap (λ (e : Ending). record { stand = m.stand; steps = m.steps; ending = e }) (ending_back m.ending)
+moved_back m = ap (λ (e : Result (Unit {0}) NoStep). record { stand = m.stand; steps = m.steps; ending = e }) (ending_back m.ending)
 
 -- ---- over a lent trace
 
@@ -156,7 +152,7 @@ forwarded_of o =
 forwarded_back : (f : Forwarded) → forwarded_of (says_forwarded f) ≡ f
 forwarded_back f =
     ap (λ (ls : Lines). record { viewer = f.viewer; lines = ls; closed = f.closed; how = how_of (says_call_went f.how) }) (lines_back f.lines)
-    ∙ ap (λ (h : CallWent). record { viewer = f.viewer; lines = f.lines; closed = f.closed; how = h }) (how_back f.how)
+    ∙ ap (λ (h : Result (Unit {0}) NoStep). record { viewer = f.viewer; lines = f.lines; closed = f.closed; how = h }) (how_back f.how)
 
 pub forward_determined : (v : Viewer) (r r' : Forwarded) → Forwards v r → Forwards v r' → r ≡ r'
 forward_determined v r r' p q = sym (forwarded_back r) ∙ ap forwarded_of (p ∙ sym q) ∙ forwarded_back r'
@@ -165,7 +161,7 @@ abbrev backed_of : Over Back → Backed
 backed_of o = record { viewer = record { trace = o.trace; stand = o.answer.stand }; how = how_of o.answer.answer }
 
 backed_back : (b : Backed) → backed_of (says_backed b) ≡ b
-backed_back b = ap (λ (h : CallWent). record { viewer = b.viewer; how = h }) (how_back b.how)
+backed_back b = ap (λ (h : Result (Unit {0}) NoStep). record { viewer = b.viewer; how = h }) (how_back b.how)
 
 pub back_determined : (v : Viewer) (r r' : Backed) → Backs v r → Backs v r' → r ≡ r'
 back_determined v r r' p q = sym (backed_back r) ∙ ap backed_of (p ∙ sym q) ∙ backed_back r'

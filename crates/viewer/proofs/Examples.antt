@@ -2,6 +2,7 @@
 -- forward, one too many, and one back. So the hypotheses of `Viewing` are met, and those of
 -- `ManyAtOnce`.
 -- Assumes nothing.
+use Rattle.std.specs.Prelude.{Ok, Err}
 use Prim.Native.Nat.{ℕ, ◌+◌}
 use mathlib.Core.Path.{◌≡◌, refl, sym, ap, ◌∙◌}
 use mathlib.Core.List.{List, [], ◌∷◌}
@@ -22,8 +23,7 @@ use Rattle.ride.specs.Closing.{leave}
 use Rattle.ride.specs.Step.{close_behind, missed_lines, after_missed, go_on, treat}
 use Rattle.ride.specs.At.{record_at}
 use Rattle.ride.specs.Over.{records, lines_for, Ridden, ride_over}
-use Rattle.viewer.specs.declared.OpeningWent.{OpeningWent}
-use Rattle.viewer.specs.declared.CallWent.{CallWent}
+use Rattle.viewer.specs.declared.NoStep.{NoStep}
 use Rattle.viewer.specs.declared.Standing.{Standing}
 use Rattle.viewer.specs.declared.Viewer.{Viewer}
 use Rattle.viewer.specs.declared.Started.{Started}
@@ -66,7 +66,7 @@ s3 = returned s2
 -- ---- opened
 
 abbrev started : Started
-started = record { viewer = at s0; begun = OpeningWent.Open }
+started = record { viewer = at s0; begun = Ok tt }
 
 starts : Starts (plain 40) lent started
 starts = ap (holding lent) (open_done (plain 40) bytes (plain_good 40 refl) refl)
@@ -74,7 +74,7 @@ starts = ap (holding lent) (open_done (plain 40) bytes (plain_good 40 refl) refl
 -- ---- back: nothing is kept
 
 abbrev refused22 : Backed
-refused22 = record { viewer = at s0; how = CallWent.NothingKept }
+refused22 = record { viewer = at s0; how = Err NoStep.NothingKept }
 
 none_kept : Backs (at s0) refused22
 unfolding opened
@@ -91,7 +91,7 @@ unfolding opened passed fresh_ride no_group nothing_known odometer_of passed_of 
 its_line = refl
 
 abbrev forwarded : Standing → Lines → Group → Forwarded
-forwarded s lines closed = record { viewer = at s; lines = lines; closed = closed; how = CallWent.Done }
+forwarded s lines closed = record { viewer = at s; lines = lines; closed = closed; how = Ok tt }
 
 abbrev says : Standing → Group → List Line → Forward
 says s closed lines = record { answer = gives done; lines = lines; closed = closed; stand = s }
@@ -117,7 +117,7 @@ second_passed =
 -- ---- forward: at the end
 
 abbrev refused23 : Forwarded
-refused23 = record { viewer = at s2; lines = Lines.None; closed = no_group; how = CallWent.AtEnd }
+refused23 = record { viewer = at s2; lines = Lines.None; closed = no_group; how = Err NoStep.AtEnd }
 
 at_end : Forwards (at s2) refused23
 unfolding opened passed
@@ -126,7 +126,7 @@ at_end = ap (over lent) (forward_end bytes s2 (omega arith))
 -- ---- back, before the refused record
 
 abbrev came : Backed
-came = record { viewer = at s3; how = CallWent.Done }
+came = record { viewer = at s3; how = Ok tt }
 
 went_back : Backs (at s2) came
 unfolding opened passed

@@ -1,6 +1,7 @@
 -- A viewer that was opened shows after any calls what the plain definition says, and that is what a
 -- fresh ride comes to.
 -- Assumes nothing.
+use Rattle.std.specs.Prelude.{Ok}
 use Prim.Native.Nat.{ℕ, ◌%◌}
 use mathlib.Core.Path.{◌≡◌, refl, sym, ap, ◌∙◌}
 use mathlib.Core.Bool.{Bool, true, false}
@@ -13,7 +14,6 @@ use Rattle.settings.specs.declared.Store.{Store}
 use Rattle.settings.specs.Versions.{Kept, kept}
 use Rattle.settings.specs.Store.{judged}
 use Rattle.settings.specs.At.{gap_at}
-use Rattle.viewer.specs.declared.OpeningWent.{OpeningWent}
 use Rattle.viewer.specs.declared.Viewer.{Viewer}
 use Rattle.viewer.specs.declared.Started.{Started}
 use Rattle.viewer.specs.Stand.{opened}
@@ -62,11 +62,11 @@ opens_by (gives k) true store trace e h o = record { good = e ∙ ap gives (one_
 opens_by (gives k) false store trace e h o = never _ 16 (rw (e, h) at o)
 opens_by (refuses n) d store trace e h o = never _ n (rw e at o)
 
-opens : (store : Store) (trace : Bor (List ℕ)) (r : Started) → Starts store trace r → r.begun ≡ OpeningWent.Open → Opens store trace.now
+opens : (store : Store) (trace : Bor (List ℕ)) (r : Started) → Starts store trace r → r.begun ≡ Ok tt → Opens store trace.now
 opens store trace r s b =
     opens_by (judged store) (eqb (length trace.now % 8) 0) store trace.now refl refl (ap says_opening_went (sym b) ∙ ap (λ (x : Holding). x.start.answer) s)
 
-views : (store : Store) (trace : Bor (List ℕ)) (r : Started) (cs : List Call) (w : Viewer) → Starts store trace r → r.begun ≡ OpeningWent.Open → Lead cs r.viewer w
+views : (store : Store) (trace : Bor (List ℕ)) (r : Started) (cs : List Call) (w : Viewer) → Starts store trace r → r.begun ≡ Ok tt → Lead cs r.viewer w
     → Views (gap_at store) trace.now cs w
 views store trace r cs w s b l =
     let o = opens store trace r s b in

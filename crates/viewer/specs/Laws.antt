@@ -2,7 +2,7 @@
 -- `back`: "After any sequence of calls its state is the one that a fresh ride over the records
 -- before its number has." That it holds: proofs/Laws.antt.
 -- Assumes nothing.
-use Rattle.std.specs.Prelude.{ℕ, ◌+◌, ◌/◌, ◌<◌, ◌≤◌, ◌≡◌, List, [], ◌∷◌, length, take, drop}
+use Rattle.std.specs.Prelude.{ℕ, ◌+◌, ◌/◌, ◌<◌, ◌≤◌, ◌≡◌, List, [], ◌∷◌, length, take, drop, Ok}
 use Rattle.std.specs.Borrow.{Bor}
 use Rattle.settings.specs.declared.Store.{Store}
 use Rattle.words.specs.Answer.{gives, refuses}
@@ -10,7 +10,6 @@ use Rattle.settings.specs.Versions.{kept}
 use Rattle.settings.specs.Store.{judged}
 use Rattle.settings.specs.At.{gap_at}
 use Rattle.ride.specs.Over.{records, Ridden, ride_over}
-use Rattle.viewer.specs.declared.OpeningWent.{OpeningWent}
 use Rattle.viewer.specs.declared.Standing.{Standing}
 use Rattle.viewer.specs.declared.Viewer.{Viewer}
 use Rattle.viewer.specs.declared.Started.{Started}
@@ -57,7 +56,7 @@ pub record Viewing : Type 0 where
   -- after any calls, under one fixed store (M-111): each record with the gap in force at its own
   -- odometer
   pub after_any : (store : Store) (trace : Bor (List ℕ)) (r : Started) (cs : List Call) (w : Viewer)
-      → Starts store trace r → r.begun ≡ OpeningWent.Open → Lead cs r.viewer w → Views (gap_at store) trace.now cs w
+      → Starts store trace r → r.begun ≡ Ok tt → Lead cs r.viewer w → Views (gap_at store) trace.now cs w
 
 -- When a call is refused, and what that leaves: "22 for back exactly if the kept count is 0; 23 for
 -- forward exactly at the end; both leave the viewer unchanged." The conditions stand here a second

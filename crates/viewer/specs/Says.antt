@@ -1,16 +1,15 @@
 -- The numbers of document 02 for each case of this crate's answers, and what its viewers say.
 -- Assumes nothing.
-use Rattle.std.specs.Prelude.{List, [], ℕ}
+use Rattle.std.specs.Prelude.{List, [], ℕ, Result, Ok, Err}
 use Rattle.std.specs.Borrow.{Bor}
 use Rattle.words.specs.Answer.{Outcome, gives, refuses}
 use Rattle.settings.specs.Says.{says_bad}
-use Rattle.ride.specs.Says.{says_lines}
-use Rattle.viewer.specs.declared.OpeningWent.{OpeningWent}
-use Rattle.viewer.specs.declared.CallWent.{CallWent}
+use Rattle.ride.specs.Says.{says_lines, says_trace_refused}
+use Rattle.ride.specs.declared.TraceRefused.{TraceRefused}
+use Rattle.viewer.specs.declared.NoStep.{NoStep}
 use Rattle.viewer.specs.declared.Opened.{Opened}
 use Rattle.viewer.specs.declared.Went.{Went}
 use Rattle.viewer.specs.declared.Came.{Came}
-use Rattle.viewer.specs.declared.Ending.{Ending}
 use Rattle.viewer.specs.declared.Moved.{Moved}
 use Rattle.viewer.specs.declared.Started.{Started}
 use Rattle.viewer.specs.declared.Forwarded.{Forwarded}
@@ -20,18 +19,21 @@ use Rattle.viewer.specs.Going.{Ending as Ends, all, refused, Moved as Moves}
 
 -- Settings that are refused have their own number ("gap outside 1 to 200" is 19); "trace length not
 -- a multiple of 8" is 16.
-abbrev pub says_opening_went : OpeningWent → Outcome Done
-says_opening_went OpeningWent.Open = gives done
-says_opening_went (OpeningWent.Settings bad) = refuses (says_bad bad)
-says_opening_went OpeningWent.Length = refuses 16
+abbrev pub says_opening_went : Result (Unit {0}) TraceRefused → Outcome Done
+says_opening_went (Ok opened) = gives done
+says_opening_went (Err why) = refuses (says_trace_refused why)
 
 -- "22 for back exactly if the kept count is 0; 23 for forward exactly at the end"; settings that
 -- are refused have their own number.
-abbrev pub says_call_went : CallWent → Outcome Done
-says_call_went CallWent.Done = gives done
-says_call_went CallWent.NothingKept = refuses 22
-says_call_went CallWent.AtEnd = refuses 23
-says_call_went (CallWent.Settings bad) = refuses (says_bad bad)
+abbrev pub says_no_step : NoStep → ℕ
+says_no_step NoStep.NothingKept = 22
+says_no_step NoStep.AtEnd = 23
+says_no_step (NoStep.Settings bad) = says_bad bad
+
+-- That a call was done, or the number of its refusal.
+abbrev pub says_call_went : Result (Unit {0}) NoStep → Outcome Done
+says_call_went (Ok gone) = gives done
+says_call_went (Err why) = refuses (says_no_step why)
 
 -- The trace that an opened viewer holds: the lent one, or an empty one where it was refused.
 abbrev pub trace_of : Outcome Done → List ℕ → List ℕ
@@ -51,11 +53,9 @@ abbrev pub says_came : Came → Back
 says_came c = record { answer = says_call_went c.how; stand = c.stand }
 
 -- Why many calls made no further step, by the same numbers.
-abbrev pub says_ending : Ending → Ends
-says_ending Ending.All = all
-says_ending Ending.NothingKept = refused 22
-says_ending Ending.AtEnd = refused 23
-says_ending (Ending.Settings bad) = refused (says_bad bad)
+abbrev pub says_ending : Result (Unit {0}) NoStep → Ends
+says_ending (Ok gone) = all
+says_ending (Err why) = refused (says_no_step why)
 
 -- Going many times.
 abbrev pub says_moved : Moved → Moves

@@ -22,7 +22,7 @@ use group::Group;
 pub use moving::{back_at, forward_at};
 pub use opening::start_at;
 pub use placing::times_to;
-use ride::{Lines, Ride};
+use ride::{Lines, Ride, TraceRefused};
 use settings::{Bad, Store};
 
 // Where a viewer stands: how many records lie before it, how many states are kept, the state there,
@@ -36,19 +36,10 @@ pub struct Standing {
     pub settings: Store,
 }
 
-// How opening went: done, or refused for the settings (their number) or the trace's length (16).
-#[derive(Clone, Copy)]
-pub enum OpeningWent {
-    Open,
-    Settings(Bad),
-    Length,
-}
-
-// How a call went: done, or refused since nothing is kept (22), at the end (23), or for settings
-// that no opening lets in (their number).
-#[derive(Clone, Copy)]
-pub enum CallWent {
-    Done,
+// Why no step is made: nothing is kept (22), the viewer is at the end (23), or the settings are
+// refused, which no opening lets in (their number).
+#[derive(Clone, Copy, PartialEq, Eq)]
+pub enum NoStep {
     NothingKept,
     AtEnd,
     Settings(Bad),
@@ -58,7 +49,7 @@ pub enum CallWent {
 #[derive(Clone, Copy)]
 pub struct Opened {
     pub stand: Standing,
-    pub begun: OpeningWent,
+    pub begun: Result<(), TraceRefused>,
 }
 
 // What going forward over a lent trace answers: where the viewer stands, the lines that the record
@@ -68,34 +59,23 @@ pub struct Went {
     pub stand: Standing,
     pub lines: Lines,
     pub closed: Group,
-    pub how: CallWent,
+    pub how: Result<(), NoStep>,
 }
 
 // What going back answers.
 #[derive(Clone, Copy)]
 pub struct Came {
     pub stand: Standing,
-    pub how: CallWent,
-}
-
-// Why many calls made no further step: all that were asked for were made, or the next one is
-// refused: nothing is kept (22), at the end (23), or for settings that no opening lets in (their
-// number).
-#[derive(Clone, Copy)]
-pub enum Ending {
-    All,
-    NothingKept,
-    AtEnd,
-    Settings(Bad),
+    pub how: Result<(), NoStep>,
 }
 
 // What going many times answers: where the viewer stands, how many steps were made, none of which
-// was refused, and why no further one.
+// was refused, and that all were that were asked for, or why no further one.
 #[derive(Clone, Copy)]
 pub struct Moved {
     pub stand: Standing,
     pub steps: usize,
-    pub ending: Ending,
+    pub ending: Result<(), NoStep>,
 }
 
 // A viewer: the lent trace, and where it stands.
@@ -109,7 +89,7 @@ pub struct Viewer<'a> {
 #[derive(Clone, Copy)]
 pub struct Started<'a> {
     pub viewer: Viewer<'a>,
-    pub begun: OpeningWent,
+    pub begun: Result<(), TraceRefused>,
 }
 
 // A viewer after a forward: the lines that the record gave, and the group that closed.
@@ -118,14 +98,14 @@ pub struct Forwarded<'a> {
     pub viewer: Viewer<'a>,
     pub lines: Lines,
     pub closed: Group,
-    pub how: CallWent,
+    pub how: Result<(), NoStep>,
 }
 
 // A viewer after a back.
 #[derive(Clone, Copy)]
 pub struct Backed<'a> {
     pub viewer: Viewer<'a>,
-    pub how: CallWent,
+    pub how: Result<(), NoStep>,
 }
 
 // A viewer at the first record of the very trace that is lent, with a fresh ride and nothing kept;

@@ -8,13 +8,12 @@ ghost use Rattle.ride.specs.Says.{says_wrong, says_lines, says_given};
 ghost use Rattle.ride.specs.State.{no_group};
 ghost use Rattle.viewer.specs.Stand.{one_more, passed};
 ghost use Rattle.viewer.specs.Viewing.{by_step, forward, back};
-ghost use Rattle.viewer.specs.Going.{answer_of};
-ghost use Rattle.viewer.specs.Says.{says_call_went, says_ending, says_went, says_came};
+ghost use Rattle.viewer.specs.Says.{says_call_went, says_went, says_came};
 
 use crate::going::backs_at;
-use crate::{CallWent, Came, Ending, Standing, Went};
-use ride::{Given, Line, Lines, Reply, Ride, Wrong};
-use settings::{Asked, Held};
+use crate::{Came, NoStep, Standing, Went};
+use ride::{Line, Lines, Reply, Ride, Wrong};
+use settings::Held;
 
 // One more state kept, up to 256.
 pub fn one_more(kept: usize) -> usize
@@ -58,17 +57,17 @@ fn refusal(wrong: Wrong) -> u8
 }
 
 // The lines of the record with this number: those that it gives, or that it was refused.
-fn lines_of(number: u64, given: Given) -> Lines
+fn lines_of(number: u64, given: Result<Lines, Wrong>) -> Lines
     ensures { says_lines result ≡ lines_for number (says_given given) }
 {
     match given {
-        Given::Refused(wrong) => Lines::One(Line::Record(number, refusal(wrong))),
-        Given::Lines(lines) => lines,
+        Err(wrong) => Lines::One(Line::Record(number, refusal(wrong))),
+        Ok(lines) => lines,
     }
 }
 
 // A refused forward.
-fn unmoved(stand: Standing, how: CallWent) -> Went
+fn unmoved(stand: Standing, how: Result<(), NoStep>) -> Went
     ensures { says_went result ≡ record { answer = says_call_went how; lines = []; closed = no_group; stand = stand } }
 {
     let fresh = ride::fresh();
@@ -91,7 +90,7 @@ fn step_at(trace: &[u8], stand: Standing, held: Held) -> Went
     let treated = ride::treat_at(ride, held.gap, trace, number);
     let reply = treated.reply;
     let Reply::Record(given) = reply else {
-        return unmoved(stand, CallWent::AtEnd);
+        return unmoved(stand, Err(NoStep::AtEnd));
     };
     let next = treated.ride;
     let closed = treated.closed;
@@ -101,7 +100,7 @@ fn step_at(trace: &[u8], stand: Standing, held: Held) -> Went
         stand: after,
         lines,
         closed,
-        how: CallWent::Done,
+        how: Ok(()),
     }
 }
 
@@ -111,28 +110,16 @@ pub fn forward_at(trace: &[u8], stand: Standing) -> Went
 {
     let number = stand.number;
     if number >= trace.len() / 8 {
-        return unmoved(stand, CallWent::AtEnd);
+        return unmoved(stand, Err(NoStep::AtEnd));
     }
     let store = stand.settings;
     let asked = settings::at(store, 0);
     match asked {
-        Asked::Refused(bad) => unmoved(stand, CallWent::Settings(bad)),
-        Asked::InForce(first) => {
+        Err(bad) => unmoved(stand, Err(NoStep::Settings(bad))),
+        Ok(first) => {
             let held = ride::held_at(store, first, trace, number);
             step_at(trace, stand, held)
         }
-    }
-}
-
-// How a single call went, by why it made no further step.
-fn how_of(ending: Ending) -> CallWent
-    ensures { says_call_went result ≡ answer_of (says_ending ending) }
-{
-    match ending {
-        Ending::All => CallWent::Done,
-        Ending::NothingKept => CallWent::NothingKept,
-        Ending::AtEnd => CallWent::AtEnd,
-        Ending::Settings(bad) => CallWent::Settings(bad),
     }
 }
 
@@ -145,6 +132,6 @@ pub fn back_at(stand: Standing) -> Came
     let here = moved.stand;
     Came {
         stand: here,
-        how: how_of(ending),
+        how: ending,
     }
 }

@@ -4,8 +4,9 @@ ghost use Rattle.viewer.specs.Stand.{opened};
 ghost use Rattle.viewer.specs.Viewing.{start};
 ghost use Rattle.viewer.specs.Says.{says_opening_went, says_opened, slice_of, lent_to};
 
-use crate::{Opened, OpeningWent, Standing};
-use settings::{Asked, Store};
+use crate::{Opened, Standing};
+use ride::TraceRefused;
+use settings::Store;
 
 // A stand at the first record, with a fresh ride and nothing kept.
 fn fresh(store: Store) -> Standing
@@ -23,19 +24,14 @@ fn fresh(store: Store) -> Standing
 }
 
 // Whether a viewer opens: the settings' own refusal, then 16.
-fn begins(store: Store, trace: &[u8]) -> OpeningWent
+fn begins(store: Store, trace: &[u8]) -> Result<(), TraceRefused>
     ensures { says_opening_went result ≡ (start store trace.now).answer }
 {
-    let asked = settings::at(store, 0);
-    match asked {
-        Asked::Refused(bad) => OpeningWent::Settings(bad),
-        Asked::InForce(_) => {
-            if trace.len() % 8 != 0 {
-                return OpeningWent::Length;
-            }
-            OpeningWent::Open
-        }
+    settings::at(store, 0)?;
+    if trace.len() % 8 != 0 {
+        return Err(TraceRefused::Length);
     }
+    Ok(())
 }
 
 // Where a viewer stands that `start` opens over this trace, and how that went.
@@ -52,7 +48,7 @@ pub fn seen<'a>(store: Store, trace: &'a [u8]) -> &'a [u8]
     ensures { slice_of (start store trace.now).answer result ≡ lent_to (start store trace.now).answer trace.entry }
 {
     let asked = settings::at(store, 0);
-    let Asked::InForce(_) = asked else {
+    let Ok(_) = asked else {
         return &trace[0..0];
     };
     if trace.len() % 8 != 0 {

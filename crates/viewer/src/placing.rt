@@ -6,7 +6,7 @@ ghost use Rattle.ride.specs.Over.{records};
 ghost use Rattle.ride.specs.Says.{says_checked};
 ghost use Rattle.viewer.specs.Going.{reaches, is_at, times_to};
 
-use ride::Checked;
+use ride::{Checked, Wrong};
 
 // The eight bytes of the record at an index.
 fn eight(trace: &[u8], i: usize) -> [u8; 8]
@@ -27,12 +27,12 @@ fn eight(trace: &[u8], i: usize) -> [u8; 8]
 }
 
 // Whether a record that was checked is accepted, at or past the place.
-fn reaches(checked: Checked, place: u64) -> bool
+fn reaches(checked: Result<Checked, Wrong>, place: u64) -> bool
     ensures { result ≡ reaches place (says_checked checked) }
 {
     match checked {
-        Checked::Accepted(odometer, _) => odometer as u64 >= place,
-        Checked::Refused(_) => false,
+        Ok(accepted) => accepted.odometer as u64 >= place,
+        Err(_) => false,
     }
 }
 
@@ -53,14 +53,10 @@ pub fn times_to(trace: &[u8], number: usize, place: u64) -> usize
     ensures { result ≡ times_to place (drop number (records trace.now)) }
 {
     let count = trace.len() / 8;
-    let mut i = number;
-    let mut times: usize = 0;
-    while i < count {
+    for i in number..count {
         if is_at(trace, i, place) {
-            return times;
+            return i - number;
         }
-        i += 1;
-        times += 1;
     }
-    times + 1
+    count.saturating_sub(number) + 1
 }

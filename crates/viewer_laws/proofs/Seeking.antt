@@ -1,6 +1,7 @@
 -- A word is found in one of the records that are left, so there are as many, and each of them is
 -- passed.
 -- Assumes nothing.
+use Rattle.std.proofs.Common.{Option, Some, None}
 use Prim.Native.Nat.{ℕ, zero, suc, ◌+◌, ◌-◌, ◌*◌, ◌/◌, ◌<◌, ◌≤◌}
 use mathlib.Core.Path.{◌≡◌, refl, sym, ap, subst, ◌∙◌}
 use mathlib.Core.Bool.{Bool, true, false}
@@ -26,7 +27,6 @@ use Rattle.viewer.specs.Stand.{passed}
 use Rattle.viewer.specs.Viewing.{step_of}
 use Rattle.viewer.specs.Going.{all, after, Moved as Moves, forwards}
 use Rattle.viewer.proofs.Many.{forwards_next}
-use Rattle.viewer_text.specs.declared.seeking.SoughtLine.{SoughtLine}
 use Rattle.viewer_text.specs.Finding.{has}
 use Rattle.viewer_text.specs.Seeking.{further, seek_in, under, seek}
 use Rattle.viewer_laws.specs.Seeking.{Seeking}
@@ -34,16 +34,16 @@ use Rattle.viewer_laws.specs.Seeking.{Seeking}
 -- ---- among as many records as there are
 
 -- how far a search leads, and at least one record on
-Far : SoughtLine → ℕ → Type 0
-Far (SoughtLine.After n) most = (0 < n) × (n ≤ most)
-Far SoughtLine.Nowhere most = Unit {0}
+Far : Option ℕ → ℕ → Type 0
+Far (Some n) most = (0 < n) × (n ≤ most)
+Far None most = Unit {0}
 
-one_further : (x : SoughtLine) (most : ℕ) → Far x most → Far (further 1 x) (suc most)
+one_further : (x : Option ℕ) (most : ℕ) → Far x most → Far (further 1 x) (suc most)
 unfolding Far
-one_further (SoughtLine.After n) most h = (omega arith, omega (arith, h.1))
-one_further SoughtLine.Nowhere most h = tt
+one_further (Some n) most h = (omega arith, omega (arith, h.1))
+one_further None most h = tt
 
-either : (b : Bool) (x : SoughtLine) (most : ℕ) → Far x most → Far (pick b (SoughtLine.After 1) (further 1 x)) (suc most)
+either : (b : Bool) (x : Option ℕ) (most : ℕ) → Far x most → Far (pick b (Some 1) (further 1 x)) (suc most)
 unfolding Far
 either true x most h = (omega arith, omega arith)
 either false x most h = one_further x most h
@@ -62,12 +62,12 @@ record Found (trace : List ℕ) (number : ℕ) (store : Store) (n : ℕ) : Type 
   pub few : number + n ≤ length trace / 8
 
 found_by : (o : Outcome Kept) (word : List ℕ) (store : Store) (ride : Ride) (number n : ℕ) (trace : List ℕ) → judged store ≡ o
-    → SoughtLine.After n ≡ under o (seek_in word (gap_at store) ride (number + 1) (records (drop (number * 8) trace))) → Found trace number store n
+    → Some n ≡ under o (seek_in word (gap_at store) ride (number + 1) (records (drop (number * 8) trace))) → Found trace number store n
 unfolding Far
 found_by (refuses k) word store ride number n trace j e = cannot_be cc
 found_by (gives kept) word store ride number n trace j e =
     let left : List (List ℕ) = records (drop (number * 8) trace) in
-    let far : Far (SoughtLine.After n) (length left) = subst (λ (x : SoughtLine). Far x (length left)) (sym e) (far_in word (gap_at store) ride (number + 1) left) in
+    let far : Far (Some n) (length left) = subst (λ (x : Option ℕ). Far x (length left)) (sym e) (far_in word (gap_at store) ride (number + 1) left) in
     let many : length left ≡ length (drop (number * 8) trace) / 8 = records_length (length (drop (number * 8) trace) / 8) (drop (number * 8) trace) in
     let some : 0 < n = far.0 in
     let most : n ≤ length left = far.1 in
@@ -95,7 +95,7 @@ pub seeking : Seeking
 unfolding seek
 seeking = record {
   leads = λ trace word s n m c f.
-      let is : SoughtLine.After n ≡ seek word s.settings s.ride s.number trace =
+      let is : Some n ≡ seek word s.settings s.ride s.number trace =
       c.6 ∙ ap (λ (t : List ℕ). seek t s.settings s.ride s.number c.1.now) c.5 ∙ ap (seek word s.settings s.ride s.number) c.4 in
       let there = found_by (judged s.settings) word s.settings s.ride s.number n trace refl is in
       let moved = f.4 ∙ ap (λ (t : List ℕ). forwards n t s) f.3 in

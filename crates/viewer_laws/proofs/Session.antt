@@ -1,6 +1,7 @@
 -- Each move keeps a viewer alike to the plain definition, whose state is that of a fresh ride over
 -- the records before its number.
 -- Assumes nothing.
+use Rattle.std.specs.Prelude.{Ok}
 use Prim.Native.Nat.{ℕ, zero, suc, ◌*◌, ◌/◌, ◌%◌, ◌≤◌}
 use mathlib.Core.Path.{◌≡◌, refl, sym, ap, subst, ◌∙◌}
 use mathlib.Core.Bool.{Bool, true, false}
@@ -18,7 +19,6 @@ use Rattle.settings.specs.At.{gap_at}
 use Rattle.ride.specs.State.{fresh_ride}
 use Rattle.ride.specs.Over.{first_records, records, ride_over, Run, run}
 use Rattle.ride.proofs.Cutting.{take_records, front_records}
-use Rattle.viewer.specs.declared.OpeningWent.{OpeningWent}
 use Rattle.viewer.specs.declared.Standing.{Standing}
 use Rattle.viewer.specs.declared.Opened.{Opened}
 use Rattle.viewer.specs.Stand.{opened}
@@ -136,7 +136,7 @@ run_is store trace n good h =
     rw (good, eq-eqb (length (take (n * 8) trace) % 8) 0 whole)
     (ap (λ (rs : List (List ℕ)). (ride_over (gap_at store) fresh_ride 1 rs).ride) (front n trace h))
 
-views : (store : Store) (trace : List ℕ) (r : Opened) (ms : List Move) (t : Standing) → StartAt store trace r → r.begun ≡ OpeningWent.Open → Lead trace ms r.stand t
+views : (store : Store) (trace : List ℕ) (r : Opened) (ms : List Move) (t : Standing) → StartAt store trace r → r.begun ≡ Ok tt → Lead trace ms r.stand t
     → Views store trace (session (gap_at store) trace ms first) t
 views store trace r ms t c b l =
     let answer : gives done ≡ (start store trace).answer = ap says_opening_went (sym b) ∙ ap (λ (x : Start). x.answer) (c.4 ∙ ap (start store) c.3) in

@@ -2,6 +2,8 @@
 -- records four forward, two back, afresh, and five forward, the fifth of which is refused with 23;
 -- then five back, the fifth of which is refused with 22.
 -- Assumes nothing.
+use Rattle.std.specs.Prelude.{Ok, Err}
+use Rattle.std.proofs.Common.{Some}
 use Prim.Native.Nat.{ℕ}
 use mathlib.Core.Path.{◌≡◌, refl}
 use mathlib.Core.List.{List, [], ◌∷◌}
@@ -13,8 +15,7 @@ use Rattle.settings.specs.declared.Store.{Store}
 use Rattle.settings.specs.Versions.{settings_of, follows}
 use Rattle.settings.specs.Store.{no_store_meant, versions_of, opened as opened_store, begin, all_follow, in_order_meant as versions_in_order, plain, judged}
 use Rattle.settings.specs.At.{gap_at}
-use Rattle.viewer.specs.declared.OpeningWent.{OpeningWent}
-use Rattle.viewer.specs.declared.Ending.{Ending}
+use Rattle.viewer.specs.declared.NoStep.{NoStep}
 use Rattle.viewer.specs.declared.Opened.{Opened}
 use Rattle.viewer.specs.declared.Moved.{Moved}
 use Rattle.viewer.specs.Stand.{opened, passed, returned}
@@ -29,7 +30,6 @@ use Rattle.ride.specs.Over.{first_records}
 use Rattle.ride_text.specs.Text.{text_with, lines_text}
 use Rattle.viewer_text.specs.Finding.{small, stands_at, stands_before, has}
 use Rattle.viewer_text.specs.Seeking.{seek_in, seek}
-use Rattle.viewer_text.specs.declared.seeking.SoughtLine.{SoughtLine}
 use Rattle.viewer_text.specs.Screen.{lines_from}
 use Rattle.viewer_laws.specs.Session.{StartAt, ForwardsAt, BacksAt, Move, forward, back, afresh, Lead, session, Views}
 use Rattle.viewer_laws.proofs.Session.{sessions}
@@ -47,16 +47,16 @@ store = plain 40
 
 -- what the calls answer: the contracts' own right sides
 abbrev begun : Opened
-begun = record { stand = opened store; begun = OpeningWent.Open }
+begun = record { stand = opened store; begun = Ok tt }
 
 abbrev four : Moved
-four = record { stand = (forwards 4 bytes (opened store)).stand; steps = 4; ending = Ending.All }
+four = record { stand = (forwards 4 bytes (opened store)).stand; steps = 4; ending = Ok tt }
 
 abbrev two : Moved
-two = record { stand = (backs 2 four.stand).stand; steps = 2; ending = Ending.All }
+two = record { stand = (backs 2 four.stand).stand; steps = 2; ending = Ok tt }
 
 abbrev five : Moved
-five = record { stand = (forwards 5 bytes (opened store)).stand; steps = 4; ending = Ending.AtEnd }
+five = record { stand = (forwards 5 bytes (opened store)).stand; steps = 4; ending = Err NoStep.AtEnd }
 
 starts : StartAt store bytes begun
 unfolding start opened differing is_good good_pair settings_of follows no_store_meant versions_of opened_store begin all_follow versions_in_order judged
@@ -72,7 +72,7 @@ two_met = ((four.stand, (2, tt)), refl)
 
 -- back from there
 abbrev back_five : Moved
-back_five = record { stand = (backs 5 five.stand).stand; steps = 4; ending = Ending.NothingKept }
+back_five = record { stand = (backs 5 five.stand).stand; steps = 4; ending = Err NoStep.NothingKept }
 
 five_met : ForwardsAt bytes (opened store) 5 five
 unfolding forwards forward_of passed opened differing is_good good_pair settings_of follows no_store_meant versions_of opened_store begin all_follow versions_in_order judged
@@ -104,6 +104,6 @@ lasts text lines = (([], tt), lent text, (lent text, (lines, tt)), refl, refl)
 abbrev malformed : List ℕ
 malformed = 0x00 ∷ 0x00 ∷ 0x03 ∷ 0xE8 ∷ 0x04 ∷ 0x00 ∷ 0x00 ∷ 0x00 ∷ []
 
-pub seeks : Seeks malformed 0 fresh_ride store (codes "Refused") (SoughtLine.After 1)
+pub seeks : Seeks malformed 0 fresh_ride store (codes "Refused") (Some 1)
 unfolding seek seek_in has stands_before stands_at small lines_text text_with decimal digits treat check_record odometer_of passed_of in_order_meant first_records fresh_ride no_group nothing_known differing is_good good_pair settings_of follows no_store_meant versions_of opened_store begin all_follow versions_in_order judged
 seeks = (([], ([], tt)), lent malformed, lent (codes "Refused"), (lent malformed, (0, (fresh_ride, (store, (lent (codes "Refused"), tt))))), refl, refl, refl)

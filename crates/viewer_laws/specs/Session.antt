@@ -3,7 +3,7 @@
 -- `viewer::start_at`, `forwards_at` and `backs_at` and of `ride::run`, for any answers that they
 -- allow. That it holds: proofs/Session.antt.
 -- Assumes nothing.
-use Rattle.std.specs.Prelude.{ℕ, zero, suc, ◌*◌, ◌≡◌, List, [], ◌∷◌, length, take}
+use Rattle.std.specs.Prelude.{ℕ, zero, suc, ◌*◌, ◌≡◌, List, [], ◌∷◌, length, take, Ok}
 use contract.Lifetimes.{Lfts}
 use Rattle.std.specs.Borrow.{Bor}
 use borrow.Fn.Kinds.{ended_of}
@@ -16,7 +16,6 @@ use Rattle.ride.specs.declared.Ran.{Ran}
 use Rattle.ride.specs.State.{fresh_ride}
 use Rattle.ride.proofs.run.Kinds as run_kinds
 use Rattle.ride.proofs.run.Reads as run_reads
-use Rattle.viewer.specs.declared.OpeningWent.{OpeningWent}
 use Rattle.viewer.specs.declared.Standing.{Standing}
 use Rattle.viewer.specs.declared.Opened.{Opened}
 use Rattle.viewer.specs.declared.Moved.{Moved}
@@ -102,7 +101,7 @@ pub record Views (store : Store) (trace : List ℕ) (p : Plain) (t : Standing) :
 
 -- After any session the viewer stands so.
 pub record Sessions : Type 0 where
-  pub after_any : (store : Store) (trace : List ℕ) (r : Opened) (ms : List Move) (t : Standing) → StartAt store trace r → r.begun ≡ OpeningWent.Open → Lead trace ms r.stand t
+  pub after_any : (store : Store) (trace : List ℕ) (r : Opened) (ms : List Move) (t : Standing) → StartAt store trace r → r.begun ≡ Ok tt → Lead trace ms r.stand t
       → Views store trace (session (gap_at store) trace ms first) t
 
 -- Where many calls stop, the next one is refused with the number that they name, and leaves the

@@ -1,5 +1,6 @@
 -- A record listed alone, and a turn of the search over those that are left.
 -- Assumes nothing.
+use Rattle.std.proofs.Common.{Option, Some, None}
 use Prim.Native.Nat.{ℕ, suc, ◌+◌, ◌*◌, ◌/◌, ◌%◌, ◌≤◌, ◌<◌}
 use mathlib.Core.Path.{◌≡◌, refl, sym, ap, ap₂, ◌∙◌}
 use mathlib.Core.Bool.{Bool, true, false}
@@ -29,22 +30,21 @@ use Rattle.ride_text.specs.declared.Listed.{Listed}
 use Rattle.ride_text.specs.Says.{says_done, says_listed}
 use Rattle.ride_text.proofs.Taken.{all_taken, step_short}
 use Rattle.viewer_text.specs.Finding.{has}
-use Rattle.viewer_text.specs.declared.seeking.SoughtLine.{SoughtLine}
 use Rattle.viewer_text.specs.Seeking.{further, seek_in, bytes_of, seek}
 
 -- ---- records before the first
 
-pub further_none : (x : SoughtLine) → further 0 x ≡ x
-further_none (SoughtLine.After n) =
+pub further_none : (x : Option ℕ) → further 0 x ≡ x
+further_none (Some n) =
     let e : 0 + n ≡ n = omega arith in
-    ap SoughtLine.After e
-further_none SoughtLine.Nowhere = refl
+    ap Some e
+further_none None = refl
 
-pub further_on : (m : ℕ) (x : SoughtLine) → further m (further 1 x) ≡ further (m + 1) x
-further_on m (SoughtLine.After n) =
+pub further_on : (m : ℕ) (x : Option ℕ) → further m (further 1 x) ≡ further (m + 1) x
+further_on m (Some n) =
     let e : m + (1 + n) ≡ m + 1 + n = omega arith in
-    ap SoughtLine.After e
-further_on m SoughtLine.Nowhere = refl
+    ap Some e
+further_on m None = refl
 
 -- ---- the records that are left
 
@@ -136,7 +136,7 @@ pub seek_here : (word : List ℕ) (store : Store) (ride : Ride) (i : ℕ) (trace
     let r = record_at trace i in
     let s = treat ride (gap_at store (odometer_of r)) r in
     has (step_text with_reasons (i + 1) s) word ≡ true
-    → seek_in word (gap_at store) ride (i + 1) (records (drop (i * 8) trace)) ≡ SoughtLine.After 1
+    → seek_in word (gap_at store) ride (i + 1) (records (drop (i * 8) trace)) ≡ Some 1
 unfolding seek_in
 seek_here word store ride i trace less e =
     ap (seek_in word (gap_at store) ride (i + 1)) (left_one trace i less) ∙ rw e refl
@@ -151,11 +151,11 @@ seek_next word store ride i trace less e =
     let r : List ℕ = record_at trace i in
     let s : Step = treat ride (gap_at store (odometer_of r)) r in
     ap (seek_in word (gap_at store) ride (i + 1)) (left_one trace i less)
-    ∙ ap (λ (b : Bool). pick b (SoughtLine.After 1) (further 1 (seek_in word (gap_at store) s.ride (suc (i + 1)) (records (drop ((i + 1) * 8) trace))))) e
+    ∙ ap (λ (b : Bool). pick b (Some 1) (further 1 (seek_in word (gap_at store) s.ride (suc (i + 1)) (records (drop ((i + 1) * 8) trace))))) e
     ∙ ap (λ (n : ℕ). further 1 (seek_in word (gap_at store) s.ride n (records (drop ((i + 1) * 8) trace)))) (sym (add-one (i + 1)))
 
 pub seek_none : (word : List ℕ) (store : Store) (ride : Ride) (i : ℕ) (trace : List ℕ) → length trace / 8 ≤ i
-    → seek_in word (gap_at store) ride (i + 1) (records (drop (i * 8) trace)) ≡ SoughtLine.Nowhere
+    → seek_in word (gap_at store) ride (i + 1) (records (drop (i * 8) trace)) ≡ None
 unfolding seek_in
 seek_none word store ride i trace past = ap (seek_in word (gap_at store) ride (i + 1)) (left_none trace i past)
 
@@ -166,6 +166,6 @@ pub seek_good : (word : List ℕ) (store : Store) (ride : Ride) (number : ℕ) (
 unfolding seek
 seek_good word store ride number trace good = rw good refl
 
-pub seek_bad : (word : List ℕ) (store : Store) (ride : Ride) (number : ℕ) (trace : List ℕ) (n : ℕ) → judged store ≡ refuses n → SoughtLine.Nowhere ≡ seek word store ride number trace
+pub seek_bad : (word : List ℕ) (store : Store) (ride : Ride) (number : ℕ) (trace : List ℕ) (n : ℕ) → judged store ≡ refuses n → None ≡ seek word store ride number trace
 unfolding seek
 seek_bad word store ride number trace n bad = rw bad refl

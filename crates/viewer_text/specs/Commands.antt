@@ -4,11 +4,11 @@
 -- again, the end, or nothing that is known. Blanks around it do not count, nor how many stand
 -- before its number, nor whether its letter is a capital.
 -- Assumes nothing.
-use Rattle.std.specs.Prelude.{ℕ, zero, suc, ◌+◌, ◌-◌, Bool, ◌||◌, List, [], ◌∷◌, eqb, leb, length, get_or, take, drop}
+use Rattle.std.specs.Prelude.{ℕ, zero, suc, ◌+◌, ◌-◌, Bool, ◌||◌, List, [], ◌∷◌, eqb, leb, length, get_or, take, drop, Result, Ok, Err}
 use Rattle.words.specs.Answer.{pick}
 use Rattle.words.specs.Limits.{largest64}
 use Rattle.figures.specs.Figures.{decimal}
-use Rattle.figures.specs.declared.Figure.{Figure}
+use Rattle.figures.specs.declared.NotFigure.{NotFigure}
 use Rattle.viewer_text.specs.Finding.{small}
 use Rattle.viewer_text.specs.declared.commands.Command.{Command}
 
@@ -31,10 +31,10 @@ unfoldable pub alone : ℕ → Command
 alone letter = pick (eqb letter 102) (Command.Forward 1) (pick (eqb letter 98) (Command.Back 1) (pick (eqb letter 113) Command.Quit Command.Unknown))
 
 -- A number that is too large is the largest; what is no number makes no command.
-abbrev pub numbered : ℕ → Figure → Command
-numbered letter (Figure.Number n) = by letter n
-numbered letter Figure.Above = by letter largest
-numbered letter Figure.Odd = Command.Unknown
+abbrev pub numbered : ℕ → Result ℕ NotFigure → Command
+numbered letter (Ok n) = by letter n
+numbered letter (Err NotFigure.Above) = by letter largest
+numbered letter (Err NotFigure.Odd) = Command.Unknown
 
 -- A blank: a space, a tab, or the CR that stands before the newline on some machines.
 abbrev pub blank : ℕ → Bool

@@ -4,7 +4,7 @@ ghost use Rattle.viewer_text.specs.Commands.{by, alone, followed, command};
 
 use crate::finding::small;
 use crate::trimming;
-use figures::Figure;
+use figures::NotFigure;
 
 // What a line asks for: so many records forward or back, to where so many lie before, to a place,
 // to the next line of the ride that has a word (which stands in the line, from one place up to
@@ -69,9 +69,9 @@ fn followed(letter: u8, rest: &[u8]) -> Command
         return Command::Unknown;
     }
     match figures::decimal(&rest[blanks..], u64::MAX) {
-        Figure::Number(n) => by(letter, n),
-        Figure::Above => by(letter, u64::MAX),
-        Figure::Odd => Command::Unknown,
+        Ok(n) => by(letter, n),
+        Err(NotFigure::Above) => by(letter, u64::MAX),
+        Err(NotFigure::Odd) => Command::Unknown,
     }
 }
 

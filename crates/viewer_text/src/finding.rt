@@ -20,12 +20,10 @@ fn stands_at(text: &[u8], at: usize, word: &[u8]) -> bool
     requires { at + length word.now ≤ length text.now }
     ensures { result ≡ stands_at text.now at word.now (length word.now) }
 {
-    let mut k = word.len();
-    while k > 0 {
-        if small(text[at + (k - 1)]) != small(word[k - 1]) {
+    for k in (0..word.len()).rev() {
+        if small(text[at + k]) != small(word[k]) {
             return false;
         }
-        k -= 1;
     }
     true
 }
@@ -37,12 +35,10 @@ pub fn has(text: &[u8], word: &[u8]) -> bool
     if word.len() > text.len() {
         return false;
     }
-    let mut n = text.len() - word.len() + 1;
-    while n > 0 {
-        if stands_at(text, n - 1, word) {
+    for n in (0..text.len() - word.len() + 1).rev() {
+        if stands_at(text, n, word) {
             return true;
         }
-        n -= 1;
     }
     false
 }

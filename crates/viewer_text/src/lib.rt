@@ -25,7 +25,7 @@ pub use finding::has;
 pub use missing::put_no_line;
 use ride::Ride;
 pub use screen::{first_around, last_lines, put_beside};
-pub use seeking::{SoughtLine, seek};
+pub use seeking::seek;
 
 // Where a viewer stands, to the letter, into buf from `at` on, all other bytes as they were, and
 // the place after it; without room nothing is written, and the answer is `at`.

@@ -23,12 +23,10 @@ fn copy(word: &[u8], buf: &mut [u8], at: usize) -> usize
     requires { at + length word.now ≤ length buf.old }
     ensures { came result buf.new ≡ put (map visible word.now) buf.old at }
 {
-    let mut i = 0;
-    while i < word.len() {
+    for i in 0..word.len() {
         buf[at + i] = visible(word[i]);
-        i += 1;
     }
-    at + i
+    at + word.len()
 }
 
 // `no further line has WORD` into buf from `at` on, and the place after it; without room nothing is

@@ -11,18 +11,16 @@ use trace_text::{Said, What};
 pub fn last_lines(text: &[u8], lines: usize) -> usize
     ensures { result ≡ lines_from (length text.now) lines text.now }
 {
-    let mut i = text.len();
     let mut left = lines;
-    while i > 0 {
-        if text[i - 1] == b'\n' {
+    for i in (0..text.len()).rev() {
+        if text[i] == b'\n' {
             if left == 0 {
-                return i;
+                return i + 1;
             }
             left -= 1;
         }
-        i -= 1;
     }
-    i
+    0
 }
 
 // What is left of a number, 0 where it is too small.

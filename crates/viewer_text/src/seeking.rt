@@ -9,40 +9,29 @@ ghost use Rattle.ride_text.specs.Says.{says_done};
 ghost use Rattle.viewer_text.specs.Seeking.{bytes_of, seek_in, seek};
 
 use crate::finding::has;
-use ride::Ride;
-use ride_text::{Done, REASONS};
-use settings::{Asked, Store};
-
-// Where the next line with a word is: so many records forward lead to just after the record that
-// gives it; or there is none.
-#[derive(Clone, Copy)]
-pub enum SoughtLine {
-    After(usize),
-    Nowhere,
-}
+use ride::{Ride, TraceRefused};
+use ride_text::{REASONS, Took};
+use settings::Store;
 
 // How many bytes a listing wrote.
-fn bytes_of(done: Done) -> usize
+fn bytes_of(done: Result<Took, TraceRefused>) -> usize
     ensures { result ≡ bytes_of (says_done done) }
 {
     match done {
-        Done::Took { records: _, bytes } => bytes,
-        Done::Settings(_) => 0,
-        Done::Length => 0,
+        Ok(took) => took.bytes,
+        Err(_) => 0,
     }
 }
 
-// The records that are left, one after the other, up to the first that gives a line with the word.
-fn over(trace: &[u8], number: usize, ride: Ride, store: Store, word: &[u8]) -> SoughtLine
+// The records that are left, one after the other, up to the first that gives a line with the word:
+// how many records forward lead to just after it; none where no record gives one.
+fn over(trace: &[u8], number: usize, ride: Ride, store: Store, word: &[u8]) -> Option<usize>
     requires { judged store ≡ gives kept }
     ensures { result ≡ seek_in word.now (gap_at store) ride (number + 1) (records (drop (number * 8) trace.now)) }
 {
-    let count = trace.len() / 8;
     let mut text = [0u8; 320];
     let mut now = ride;
-    let mut i = number;
-    let mut times: usize = 0;
-    while i < count {
+    for i in number..trace.len() / 8 {
         let at = i * 8;
         let listed = ride_text::list(
             REASONS,
@@ -54,25 +43,23 @@ fn over(trace: &[u8], number: usize, ride: Ride, store: Store, word: &[u8]) -> S
         );
         let done = listed.done;
         let bytes = bytes_of(done);
-        times += 1;
         if has(&text[..bytes], word) {
-            return SoughtLine::After(times);
+            return Some(i - number + 1);
         }
         now = listed.ride;
-        i += 1;
     }
-    SoughtLine::Nowhere
+    None
 }
 
 // How many records forward lead to just after the first one that gives a line with the word, as
 // `explain` writes it, where so many records lie before the viewer and the ride is in this state.
-// With settings that are refused there is none.
-pub fn seek(trace: &[u8], number: usize, ride: Ride, store: Store, word: &[u8]) -> SoughtLine
+// With settings that are refused, or where no record gives one, there is none.
+pub fn seek(trace: &[u8], number: usize, ride: Ride, store: Store, word: &[u8]) -> Option<usize>
     ensures { result ≡ seek word.now store ride number trace.now }
 {
     let asked = settings::at(store, 0);
     match asked {
-        Asked::Refused(_) => SoughtLine::Nowhere,
-        Asked::InForce(_) => over(trace, number, ride, store, word),
+        Err(_) => None,
+        Ok(_) => over(trace, number, ride, store, word),
     }
 }

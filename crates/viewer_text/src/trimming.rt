@@ -14,26 +14,22 @@ fn is_blank(c: u8) -> bool
 pub fn begin(line: &[u8]) -> usize
     ensures { result ≡ leading line.now }
 {
-    let mut i: usize = 0;
-    while i < line.len() {
+    for i in 0..line.len() {
         if !is_blank(line[i]) {
             return i;
         }
-        i += 1;
     }
-    i
+    line.len()
 }
 
 // Where the last sign ends that is no blank.
 pub fn end(line: &[u8]) -> usize
     ensures { result ≡ ends_at (length line.now) line.now }
 {
-    let mut n = line.len();
-    while n > 0 {
-        if !is_blank(line[n - 1]) {
-            return n;
+    for n in (0..line.len()).rev() {
+        if !is_blank(line[n]) {
+            return n + 1;
         }
-        n -= 1;
     }
-    n
+    0
 }

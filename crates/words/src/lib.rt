@@ -8,92 +8,73 @@
 
 ghost use Rattle.std.specs.Prelude.{◌≡◌};
 ghost use Rattle.words.specs.Code.{read_short, write_short, read_long, write_long};
-ghost use Rattle.words.specs.Says.{says_short_read, says_short_written, says_long_read, says_long_written};
+ghost use Rattle.words.specs.Says.{says_read, says_written};
 
 mod reading;
 mod writing;
 
 // Whether a word's ones are odd or even in number.
-#[derive(Clone, Copy)]
+#[derive(Clone, Copy, PartialEq, Eq)]
 pub enum Parity {
     Odd,
     Even,
 }
 
-// What reading a short word answers.
-#[derive(Clone, Copy)]
-pub enum ShortRead {
-    Figure(u8),
-    NotCode(Parity),
-}
+// The refusal of a word that is no code word, with whether its ones are odd or even in number.
+#[derive(Clone, Copy, PartialEq, Eq)]
+pub struct NotCode(pub Parity);
 
-// What writing a figure as a short word answers.
-#[derive(Clone, Copy)]
-pub enum ShortWritten {
-    Word(u8),
-    TooLarge,
-}
-
-// What reading a long word answers.
-#[derive(Clone, Copy)]
-pub enum LongRead {
-    Figure(u16),
-    NotCode(Parity),
-}
-
-// What writing a figure as a long word answers.
-#[derive(Clone, Copy)]
-pub enum LongWritten {
-    Word(u16),
-    TooLarge,
-}
+// The refusal of a figure above the largest that the code writes.
+#[derive(Clone, Copy, PartialEq, Eq)]
+pub struct TooLarge;
 
 // The figure of a received byte if every check of the plain code is even; else refusal 1, with
 // whether its ones are odd or even in number.
-pub fn read_short(word: u8) -> ShortRead
-    ensures { says_short_read result ≡ read_short word }
+// Stays as it is: the new form is no plainer, as a trait would hold the test and types of each.
+pub fn read_short(word: u8) -> Result<u8, NotCode>
+    ensures { says_read result ≡ read_short word }
 {
     if reading::is_short(word) {
-        ShortRead::Figure(word / 16)
+        Ok(word / 16)
     } else {
-        ShortRead::NotCode(reading::parity(word as u32))
+        Err(NotCode(reading::parity(word as u32)))
     }
 }
 
 // The one short word to send for a figure 0 to 15; a larger one is refused with 2.
-pub fn write_short(figure: u8) -> ShortWritten
-    ensures { says_short_written result ≡ write_short figure }
+pub fn write_short(figure: u8) -> Result<u8, TooLarge>
+    ensures { says_written result ≡ write_short figure }
 {
     if figure <= 15 {
         let w = writing::sent(figure as u32, 8);
-        ShortWritten::Word((w % 256) as u8)
+        Ok((w % 256) as u8)
     } else {
-        ShortWritten::TooLarge
+        Err(TooLarge)
     }
 }
 
 // The figure of sixteen received bits if every check is even; else refusal 1, with whether their
 // ones are odd or even in number.
-pub fn read_long(word: u16) -> LongRead
-    ensures { says_long_read result ≡ read_long word }
+pub fn read_long(word: u16) -> Result<u16, NotCode>
+    ensures { says_read result ≡ read_long word }
 {
     let w = word as u32;
     if reading::is_code(w) {
         let x = reading::figure(w);
-        LongRead::Figure((x % 65536) as u16)
+        Ok((x % 65536) as u16)
     } else {
-        LongRead::NotCode(reading::parity(w))
+        Err(NotCode(reading::parity(w)))
     }
 }
 
 // The one long word to send for a figure 0 to 2,047; a larger one is refused with 2.
-pub fn write_long(figure: u16) -> LongWritten
-    ensures { says_long_written result ≡ write_long figure }
+pub fn write_long(figure: u16) -> Result<u16, TooLarge>
+    ensures { says_written result ≡ write_long figure }
 {
     if figure <= 2047 {
         let w = writing::sent(figure as u32, 16);
-        LongWritten::Word((w % 65536) as u16)
+        Ok((w % 65536) as u16)
     } else {
-        LongWritten::TooLarge
+        Err(TooLarge)
     }
 }

@@ -47,14 +47,12 @@ fn carried(x: u32, n: u32) -> u32
     let mut h: u32 = 0;
     let mut one: u32 = 1;
     let mut k: u32 = 0;
-    let mut i: u32 = 0;
-    while i < n {
+    for i in 0..n {
         let carries = carrier(i);
         let b = carries * ((x >> k) % 2);
         h += b * one;
         k += carries;
         one *= 2;
-        i += 1;
     }
     h
 }
@@ -72,10 +70,8 @@ fn count(c: u32, h: u32, n: u32) -> u32
     ensures { result ≡ count (covers c) h n }
 {
     let mut found: u32 = 0;
-    let mut i: u32 = 0;
-    while i < n {
+    for i in 0..n {
         found += covers(c, i) * ((h >> i) % 2);
-        i += 1;
     }
     found
 }
@@ -95,13 +91,11 @@ fn exchanged(w: u32, n: u32) -> u32
 {
     let mut e: u32 = 0;
     let mut one: u32 = 1;
-    let mut i: u32 = 0;
-    while i < n {
+    for i in 0..n {
         let at = other(i);
         let b = (w >> at) % 2;
         e += b * one;
         one *= 2;
-        i += 1;
     }
     e
 }

@@ -15,11 +15,12 @@ use Rattle.words.specs.Answer.{gives, refuses, pick}
 use Rattle.words.specs.Plain.{is_code, figure}
 use Rattle.words.specs.Why.{parity, not_code_word}
 use Rattle.words.specs.Code.{exchanged, read_word, read_long}
-use Rattle.words.specs.Says.{says_long_read}
-use Rattle.words.specs.declared.LongRead.{LongRead}
+use Rattle.words.specs.Says.{says_read}
 use Rattle.words.proofs.Answers.{refused}
 use Rattle.words.proofs.Told.{told}
-use Rattle.words.proofs.Determined.{long_read, long_read_back}
+use Rattle.words.proofs.Determined.{word_read, word_read_back}
+use Rattle.std.specs.Prelude.{Result, Ok, Err}
+use Rattle.words.specs.declared.NotCode.{NotCode}
 use Rattle.words_list.specs.Listed.{list, passed, read_by}
 use Rattle.words_list.specs.Alike.{Printed}
 use Rattle.words_list.proofs.Entries.{list_length}
@@ -31,7 +32,7 @@ use Rattle.words_list.proofs.read_long.Kinds as read_long_kinds
 use Rattle.words_list.proofs.read_long.Reads as read_long_reads
 
 -- The contract of `read_long` allows the answer r for the word w.
-abbrev pub ByList : ℕ → LongRead → Type 0
+abbrev pub ByList : ℕ → Result ℕ NotCode → Type 0
 ByList w r = (x : AtExit (ended_of 0 read_long_kinds.ps read_long_kinds.r) tt) × read_long_reads.Post tt (w, tt) r x
 
 -- The contract of `list` allows it to hand out the list l.
@@ -39,13 +40,13 @@ abbrev pub Lists : List ℕ → Type 0
 Lists l = (x : AtExit (ended_of 0 list_kinds.ps list_kinds.r) tt) × list_reads.Post tt tt l x
 
 -- Every word has an answer.
-an_answer : (w : ℕ) → (r : LongRead) × (says_long_read r ≡ read_long w)
+an_answer : (w : ℕ) → (r : Result ℕ NotCode) × (says_read r ≡ read_long w)
 unfolding read_word
 an_answer w = go (is_code 16 (exchanged 16 w))
   where
-    go : (t : Bool) → (r : LongRead) × (says_long_read r ≡ pick t (gives (figure 16 (exchanged 16 w))) (refuses (not_code_word 16 w)))
-    go true = (LongRead.Figure (figure 16 (exchanged 16 w)), refl)
-    go false = (LongRead.NotCode (parity 16 w), refl)
+    go : (t : Bool) → (r : Result ℕ NotCode) × (says_read r ≡ pick t (gives (figure 16 (exchanged 16 w))) (refuses (not_code_word 16 w)))
+    go true = (Ok (figure 16 (exchanged 16 w)), refl)
+    go false = (Err (record { 0 = (parity 16 w) }), refl)
 
 -- Going down the list, one reads what the checks read.
 by_the_list : (w : ℕ) → w < 65536 → read_by list w ≡ read_long w
@@ -67,7 +68,7 @@ one_figure x y hx hy e =
 
 pub printed : Printed ByList Lists
 printed = record {
-  same = λ w r r' a b. told says_long_read long_read long_read_back r r' a.1 b.1;
+  same = λ w r r' a b. told says_read word_read word_read_back r r' a.1 b.1;
   answered = λ w. ((an_answer w).0, (((w, tt), (an_answer w).1), ((w, tt), (an_answer w).1)));
   by_hand = λ l h w small. ap (λ (m : List ℕ). read_by m w) h.1 ∙ by_the_list w small;
   how_many = λ l h. ap length h.1 ∙ list_length;

@@ -6,11 +6,11 @@
 
 ghost use Rattle.std.specs.Prelude.{◌≡◌};
 ghost use Rattle.words.specs.Code.{read_long};
-ghost use Rattle.words.specs.Says.{says_long_read};
+ghost use Rattle.words.specs.Says.{says_read};
 ghost use Rattle.words.specs.Why.{parity};
 ghost use Rattle.words_list.specs.Listed.{list};
 
-use words::{LongRead, Parity};
+use words::{NotCode, Parity};
 
 mod table;
 
@@ -23,18 +23,16 @@ pub fn list() -> [u16; 2048]
 
 // The figure of sixteen received bits, or refusal 1 with their parity: what `words::read_long`
 // promises, word for word. The list is searched from figure 0 on.
-pub fn read_long(word: u16) -> LongRead
-    ensures { says_long_read result ≡ read_long word }
+pub fn read_long(word: u16) -> Result<u16, NotCode>
+    ensures { says_read result ≡ read_long word }
 {
     let words = list();
-    let mut figure: u16 = 0;
-    while figure < 2048 {
+    for figure in 0..2048 {
         if words[figure as usize] == word {
-            return LongRead::Figure(figure);
+            return Ok(figure);
         }
-        figure += 1;
     }
-    LongRead::NotCode(parity(word))
+    Err(NotCode(parity(word)))
 }
 
 // Whether the ones of a long word are odd or even in number.

@@ -9,22 +9,22 @@ use Rattle.acceptance_text.proofs.accept.Goals as goal
 pub returns-then-trace-ne0 : goal.returns-then-trace-ne0
 returns-then-trace-ne0 c =
     let a = c.args in
-    let held = held_given a.store 0 _ (sym c.at-asked.ensures ∙ ap says_asked c.in-InForce.is) in
+    let held = held_given a.store 0 _ (sym c.at-asked.ensures ∙ ap says_asked c.in-Ok.is) in
     accept_length a.going a.store a.trace.now a.out.now held.0 (ne_eqb _ _ c.if-trace-ne0.true)
 
 pub over-requires : goal.over-requires
 over-requires c =
-    let held = held_given c.args.store 0 _ (sym c.at-asked.ensures ∙ ap says_asked c.in-InForce.is) in
+    let held = held_given c.args.store 0 _ (sym c.at-asked.ensures ∙ ap says_asked c.in-Ok.is) in
     (held.0, held.2)
 
-pub returns-in-Refused : goal.returns-in-Refused
-returns-in-Refused c =
+pub returns-in-Err : goal.returns-in-Err
+returns-in-Err c =
     let a = c.args in
     accept_refused a.going a.store a.trace.now a.out.now _
-    (store_refused a.store _ (sym c.at-asked.ensures ∙ ap says_asked c.in-Refused.is))
+    (store_refused a.store _ (sym c.at-asked.ensures ∙ ap says_asked c.in-Err.is))
 
 pub returns-else-trace-ne0 : goal.returns-else-trace-ne0
 returns-else-trace-ne0 c =
     let a = c.args in
-    let held = held_given a.store 0 _ (sym c.at-asked.ensures ∙ ap says_asked c.in-InForce.is) in
+    let held = held_given a.store 0 _ (sym c.at-asked.ensures ∙ ap says_asked c.in-Ok.is) in
     c.over.ensures ∙ accept_taken_law a.going a.store a.trace.now a.out.now held.0 (eq-eqb _ _ c.if-trace-ne0.false)

@@ -10,24 +10,24 @@ use Rattle.antenna.proofs.hear_piece.Goals as goal
 pub overflow_add-start : goal.overflow_add-start
 overflow_add-start c =
     let a = c.args in
-    let h = judged_inside a.buf.now a.start a.len c.inside-reach.result c.inside-reach.ensures c.in-Inside.is in
+    let h = judged_inside a.buf.now a.start a.len c.inside.result c.inside.ensures c.in-Ok.field-0 c.in-Ok.is in
     omega (arith, taken a.buf.now a.start a.len h)
 
 pub over-requires : goal.over-requires
 over-requires c =
     let a = c.args in
-    let h = judged_inside a.buf.now a.start a.len c.inside-reach.result c.inside-reach.ensures c.in-Inside.is in
+    let h = judged_inside a.buf.now a.start a.len c.inside.result c.inside.ensures c.in-Ok.field-0 c.in-Ok.is in
     omega (arith, taken a.buf.now a.start a.len h)
 
-pub returns-in-Inside : goal.returns-in-Inside
+pub returns-in-Ok : goal.returns-in-Ok
 unfolding hear_piece
-returns-in-Inside c =
+returns-in-Ok c =
     let a = c.args in
     let e : a.start + a.len - a.start ≡ a.len = omega arith in
-    simp (judged_inside a.buf.now a.start a.len c.inside-reach.result c.inside-reach.ensures c.in-Inside.is) (rw e at c.over.ensures)
+    simp (judged_inside a.buf.now a.start a.len c.inside.result c.inside.ensures c.in-Ok.field-0 c.in-Ok.is) (rw e at c.over.ensures)
 
-pub returns-in-Beyond : goal.returns-in-Beyond
+pub returns-in-Err : goal.returns-in-Err
 unfolding hear_piece
-returns-in-Beyond c =
+returns-in-Err c =
     let a = c.args in
-    simp (judged_beyond a.buf.now a.start a.len c.inside-reach.result c.inside-reach.ensures c.in-Beyond.is)
+    simp (judged_beyond a.buf.now a.start a.len c.inside.result c.inside.ensures c.in-Err.field-0 c.in-Err.is)

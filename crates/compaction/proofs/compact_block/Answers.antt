@@ -5,17 +5,17 @@ use Rattle.compaction.proofs.compact_block.Goals as goal
 
 pub returns-then-block-ne0 : goal.returns-then-block-ne0
 returns-then-block-ne0 c =
-    block_length _ _ _ (in_force_law _ _ _ c.in-InForce.is c.at-asked.ensures).0 (ne_eqb _ _ c.if-block-ne0.true)
+    block_length _ _ _ (in_force_law _ _ _ c.in-Ok.is c.at-asked.ensures).0 (ne_eqb _ _ c.if-block-ne0.true)
 
 pub over-walked-requires : goal.over-walked-requires
 over-walked-requires c =
-    in_force_law _ _ _ c.in-InForce.is c.at-asked.ensures
+    in_force_law _ _ _ c.in-Ok.is c.at-asked.ensures
 
-pub returns-in-Refused : goal.returns-in-Refused
-returns-in-Refused c = block_refused _ _ _ _ (refused_with _ _ _ c.in-Refused.is c.at-asked.ensures)
+pub returns-in-Err : goal.returns-in-Err
+returns-in-Err c = block_refused _ _ _ _ (refused_with _ _ _ c.in-Err.is c.at-asked.ensures)
 
 pub returns-else-block-ne0 : goal.returns-else-block-ne0
 returns-else-block-ne0 c =
-    let held = in_force_law _ _ _ c.in-InForce.is c.at-asked.ensures in
+    let held = in_force_law _ _ _ c.in-Ok.is c.at-asked.ensures in
     block_settled _ _ _ c.over-walked.result.waiting c.over-walked.result.gap c.over-walked.result.bytes c.over-walked.new.block held.0
     (eq-eqb _ _ c.if-block-ne0.false) c.over-walked.ensures

@@ -4,14 +4,14 @@ use Rattle.telegram.proofs.Taken.{judged_inside, judged_beyond}
 use Rattle.contact.specs.Contacts.{begin, from_start}
 use Rattle.contact.proofs.begin.Goals as goal
 
-pub returns-in-Inside : goal.returns-in-Inside
+pub returns-in-Ok : goal.returns-in-Ok
 unfolding begin from_start
-returns-in-Inside c =
+returns-in-Ok c =
     let a = c.args in
-    simp (judged_inside a.buf.now a.start a.len c.inside-reach.result c.inside-reach.ensures c.in-Inside.is)
+    simp (judged_inside a.buf.now a.start a.len c.inside.result c.inside.ensures c.in-Ok.field-0 c.in-Ok.is)
 
-pub returns-in-Beyond : goal.returns-in-Beyond
+pub returns-in-Err : goal.returns-in-Err
 unfolding begin from_start
-returns-in-Beyond c =
+returns-in-Err c =
     let a = c.args in
-    simp (judged_beyond a.buf.now a.start a.len c.inside-reach.result c.inside-reach.ensures c.in-Beyond.is)
+    simp (judged_beyond a.buf.now a.start a.len c.inside.result c.inside.ensures c.in-Err.field-0 c.in-Err.is)

@@ -4,14 +4,14 @@ use Rattle.settings.specs.Says.{says_asked}
 use Rattle.contact.specs.Under.{judge_under}
 use Rattle.contact.proofs.judge_under.Goals as goal
 
-pub returns-in-Refused : goal.returns-in-Refused
+pub returns-in-Err : goal.returns-in-Err
 unfolding judge_under
-returns-in-Refused c =
-    let asked = sym c.at-asked.ensures ∙ ap says_asked c.in-Refused.is in
+returns-in-Err c =
+    let asked = sym c.at-asked.ensures ∙ ap says_asked c.in-Err.is in
     rw asked
 
-pub returns-in-InForce : goal.returns-in-InForce
+pub returns-in-Ok : goal.returns-in-Ok
 unfolding judge_under
-returns-in-InForce c =
-    let asked = sym c.at-asked.ensures ∙ ap says_asked c.in-InForce.is in
+returns-in-Ok c =
+    let asked = sym c.at-asked.ensures ∙ ap says_asked c.in-Ok.is in
     rw asked (c.with_pair.ensures ∙ c.judge.ensures)

@@ -4,7 +4,7 @@ use mathlib.Core.Path.{ap₂}
 use Prim.Native.Nat.{ℕ}
 use native.Mathlib.Omega.{arith}
 use Rattle.text.proofs.Putting.{then, after, all_as}
-use Rattle.contact_drawing.specs.Strips.{drawn, telegrams, picture_with, strips_with, strips}
+use Rattle.contact_drawing.specs.Strips.{telegrams, picture_with, strips_with, strips}
 use Rattle.contact_drawing.proofs.Each.{drawn_most}
 use Rattle.contact_drawing.proofs.draw.Goals as goal
 

@@ -16,6 +16,7 @@ use Rattle.words.specs.Bits.{word}
 use Rattle.words.specs.Plain.{is_check, covers, count, even, is_code, onwards, figure}
 use Rattle.words.specs.Code.{other, exchanged, read_word}
 use Rattle.words.proofs.Ranges.{below}
+use Rattle.std.specs.Prelude.{Ok}
 use Rattle.telegram.specs.Stretch.{bits_at, inside}
 use Rattle.telegram.specs.Sync.{differing, is_good}
 use Rattle.telegram.specs.Telegram.{short_word, long_word, telegram}
@@ -23,6 +24,7 @@ use Rattle.telegram.specs.Place.{are_syncs, words_at, is_place, from, those, pla
 use Rattle.telegram.specs.Says.{says_found}
 use Rattle.telegram.specs.declared.Telegram.{Telegram}
 use Rattle.telegram.specs.declared.Found.{Found}
+use Rattle.telegram.specs.declared.NotFound.{NotFound}
 use Rattle.telegram.proofs.Places.{one_offset}
 use Rattle.balise_line.specs.Line.{OneBalise, Proper, sent_bit, received_bit, in_stretch, unequal, flip, sum, flips, line_bit, sent_at, flips_at}
 use Rattle.balise_line.specs.Forty.{equal_bits, EqualBit}
@@ -81,7 +83,7 @@ proper : (i : ℕ) → i < 8 → Proper (line i)
 unfolding inside telegram short_word read_word is_code even count covers exchanged other word figure onwards is_check
 proper i l = let h = bytes i l in record { bytes = (h.0, h.1, omega arith, omega arith, omega arith); pair = pair i l; valid = refl; taken = refl }
 
-found_there : (i : ℕ) → i < 8 → find (line i).buffer 0 40 (line i).s (line i).t ≡ says_found (Found.At 0 (Telegram.Figures 0 0 0))
+found_there : (i : ℕ) → i < 8 → find (line i).buffer 0 40 (line i).s (line i).t ≡ says_found (Ok (record { place = 0; telegram = Telegram.Figures 0 0 0 }))
 unfolding find inside words_at bits_at telegram short_word read_word is_code even count covers exchanged other word figure onwards is_check
 found_there i l =
     let b = (line i).buffer in
@@ -90,7 +92,7 @@ found_there i l =
     ap₂ (λ (g : Bool) (ps : List ℕ). pick g (pick (inside b 0 40) (first_of b ps) (refuses 5)) (refuses 4)) (pair i l)
     (one_offset b s t 0 39 ∙ ap (λ (x : Bool). pick x (0 ∷ places b 1 39 s t) (places b 1 39 s t)) (place_is i l))
 
-handed : (i : ℕ) → i < 8 → Find (line i).buffer 0 40 (line i).s (line i).t (Found.At 0 (Telegram.Figures 0 0 0))
+handed : (i : ℕ) → i < 8 → Find (line i).buffer 0 40 (line i).s (line i).t (Ok (record { place = 0; telegram = Telegram.Figures 0 0 0 }))
 handed i l =
     let b = (line i).buffer in
     (([], tt), lent b, (lent b, (0, (40, ((line i).s, ((line i).t, tt))))), refl, sym (found_there i l))

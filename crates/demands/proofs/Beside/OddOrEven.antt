@@ -14,12 +14,13 @@ use Rattle.words.specs.Bits.{word, ones_of}
 use Rattle.words.specs.Plain.{is_check, covers, count, even, is_code, onwards, figure}
 use Rattle.words.specs.Code.{other, exchanged, read_word}
 use Rattle.words.specs.Why.{Why, why, are, parity, not_code_word}
-use Rattle.words.specs.Says.{says_short_read, says_long_read}
+use Rattle.words.specs.Says.{says_read}
 use Rattle.words.specs.declared.Parity.{Parity}
-use Rattle.words.specs.declared.ShortRead.{ShortRead}
 use Rattle.words.proofs.Parities.{parity_xor}
 use Rattle.words.proofs.Widths.{Width, short, long}
 use Rattle.words.proofs.Laws.{even_number}
+use Rattle.std.specs.Prelude.{Err}
+use Rattle.words.specs.declared.NotCode.{NotCode}
 use Rattle.demands.specs.ByContract.{ReadShort, ReadLong}
 use Rattle.demands.specs.OddOrEven.{OddOrEven, Parities}
 
@@ -79,16 +80,16 @@ module _ {n : ℕ} (wide : Width n) {A : Type 0} (says : A → Answer Why ℕ) (
 
 pub parities : Parities
 parities = record {
-  short_code = odd_or_even short says_short_read ReadShort (λ w r called. called.1);
-  long_code = odd_or_even long says_long_read ReadLong (λ w r called. called.1);
+  short_code = odd_or_even short says_read ReadShort (λ w r called. called.1);
+  long_code = odd_or_even long says_read ReadLong (λ w r called. called.1);
 }
 
 -- The hypotheses can be met: a nine was sent, 99 hex, and one bit flipped, so the word says odd;
 -- two, and it says even.
-one_flip : ReadShort (bit_xor 0x99 0x01) (ShortRead.NotCode Parity.Odd)
+one_flip : ReadShort (bit_xor 0x99 0x01) (Err (record { 0 = Parity.Odd }))
 unfolding read_word parity ones_of is_code even count covers figure onwards is_check exchanged other word
 one_flip = ((0x98, tt), refl)
 
-two_flips : ReadShort (bit_xor 0x99 0x03) (ShortRead.NotCode Parity.Even)
+two_flips : ReadShort (bit_xor 0x99 0x03) (Err (record { 0 = Parity.Even }))
 unfolding read_word parity ones_of is_code even count covers figure onwards is_check exchanged other word
 two_flips = ((0x9A, tt), refl)

@@ -10,7 +10,8 @@ use Rattle.settings.specs.declared.Version.{Version}
 use Rattle.settings.specs.declared.Store.{Store}
 use Rattle.settings.specs.declared.Held.{Held}
 use Rattle.settings.specs.declared.Added.{Added}
-use Rattle.settings.specs.declared.Asked.{Asked}
+use Rattle.settings.specs.declared.Bad.{Bad}
+use Rattle.std.specs.Prelude.{Result, Ok, Err}
 use Rattle.settings.specs.Versions.{highest, Kept, kept, settings_of}
 use Rattle.settings.specs.Store.{no_version, no_store_meant, first_of, Change, opened, opened_if, begin, judged, with_one, may_add, added_if, add}
 use Rattle.settings.specs.At.{ending, holds, asked}
@@ -64,11 +65,11 @@ abbrev held_in : Outcome Held → Held
 held_in (gives held) = held
 held_in (refuses n) = holds no_version ending
 
-given : (r : Asked) (held : Held) → says_asked r ≡ gives held → r ≡ Asked.InForce held
-given (Asked.InForce h) held e = ap Asked.InForce (ap held_in e)
-given (Asked.Refused bad) held e = cannot_be cc
+given : (r : Result Held Bad) (held : Held) → says_asked r ≡ gives held → r ≡ Ok held
+given (Ok h) held e = ap Ok (ap held_in e)
+given (Err bad) held e = cannot_be cc
 
-asks : (store : Store) (place : ℕ) (held : Held) → AskAt store place (Asked.InForce held) → asked store place ≡ gives held
+asks : (store : Store) (place : ℕ) (held : Held) → AskAt store place (Ok held) → asked store place ≡ gives held
 asks store place held c = sym c.1
 
 in_reach : (store : Store) (place : ℕ) (held : Held) → asked store place ≡ gives held → place ≤ highest

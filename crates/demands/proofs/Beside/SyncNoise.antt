@@ -8,9 +8,11 @@ use Prim.Native.Nat.{ℕ, ◌<◌}
 use native.Mathlib.Omega.{arith}
 use Rattle.words.specs.Answer.{refuses, pick}
 use Rattle.words.proofs.Told.{told}
+use Rattle.std.specs.Prelude.{Err}
 use Rattle.telegram.specs.Place.{first_of, find}
 use Rattle.telegram.specs.Says.{says_found}
 use Rattle.telegram.specs.declared.Found.{Found}
+use Rattle.telegram.specs.declared.NotFound.{NotFound}
 use Rattle.telegram.proofs.Determined.{found_of, found_back}
 use Rattle.telegram.proofs.Places.{too_short}
 use Rattle.balise_line.specs.Line.{OneBalise, Proper, unequal, sum, places_of}
@@ -27,7 +29,7 @@ use Rattle.demands.proofs.Demand3.{only_the_sent}
 -- A stretch of fewer than forty bits has no place.
 nothing_comes : (o : OneBalise) → Proper o → o.len < 40 → NothingComes o
 unfolding find
-nothing_comes o proper short = record { no_place = none; answers_6 = λ r c. told says_found found_of found_back r Found.NoPlace (sym (specified b o.start o.len o.s o.t r c)) (sym six) }
+nothing_comes o proper short = record { no_place = none; answers_6 = λ r c. told says_found found_of found_back r (Err NotFound.NoPlace) (sym (specified b o.start o.len o.s o.t r c)) (sym six) }
   where
     b : List ℕ
     b = o.buffer

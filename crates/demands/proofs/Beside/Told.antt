@@ -1,6 +1,9 @@
 -- Records told in a style: a ride told in two parts is the whole, and calls of `list` come to it,
 -- whatever their blocks.
 -- Assumes nothing.
+use Rattle.std.specs.Prelude.{Ok, Result}
+use Rattle.ride_text.specs.declared.Took.{Took}
+use Rattle.ride.specs.declared.TraceRefused.{TraceRefused}
 use Prim.Native.Nat.{ℕ, suc, ◌+◌, ◌%◌, ◌≤◌}
 use native.Mathlib.Omega.{arith}
 use native.Mathlib.Nat.{add-zero, zero-add}
@@ -20,7 +23,6 @@ use Rattle.ride.specs.Over.{records}
 use Rattle.ride.proofs.Cutting.{records_length}
 use Rattle.ride_text.specs.Style.{Style}
 use Rattle.ride_text.specs.Told.{step_text, Told, tell_over}
-use Rattle.ride_text.specs.declared.Done.{Done}
 use Rattle.ride_text.specs.declared.Listed.{Listed}
 use Rattle.ride_text.specs.List.{Taken, Listing, list_of, list_taken, list}
 use Rattle.ride_text.specs.List as listing
@@ -109,13 +111,13 @@ module _ (style : Style) (store : Store) (good : Good store) where
       ap (says_listed c.answer) (sym call.6) ∙ call.7 ∙ ap₂ (λ (x y : List ℕ). list style ride store number x y) call.4 call.5
       ∙ sym (list_taken_law style ride store number c.block c.before good (eq-eqb (length c.block % 8) 0 (eights c.block whole))) in
       let n : ℕ = length (tell_over style (gap_at store) ride number (take k rs)).text in
-      let done : c.answer.done ≡ Done.Took k n = sym (done_back c.answer.done) ∙ ap (λ (l : Listing). done_of l.answer) is in
+      let done : c.answer.done ≡ Ok (record { records = k; bytes = n }) = sym (done_back c.answer.done) ∙ ap (λ (l : Listing). done_of l.answer) is in
       let f = front style (gap_at store) ride number c.block c.before c.after k n c.answer.ride refl (ap (λ (l : Listing). l.ride) is) (ap (λ (l : Listing). l.out) is) in
       record {
         of_these = omega (arith, f.0, ap taken done);
         goes =
-            ap₂ (λ (d : Done) (j : ℕ). gone (take (bytes_of d) c.after) (c.answer.ride, j)) done (ap (λ (l : Listing). l.number) is)
-            ∙ f.1 ∙ ap (λ (d : Done). told style (gap_at store) (ride, number) (take (taken d) rs)) (sym done);
+            ap₂ (λ (d : Result Took TraceRefused) (j : ℕ). gone (take (bytes_of d) c.after) (c.answer.ride, j)) done (ap (λ (l : Listing). l.number) is)
+            ∙ f.1 ∙ ap (λ (d : Result Took TraceRefused). told style (gap_at store) (ride, number) (take (taken d) rs)) (sym done);
       }
 
   -- What they come to over a trace: its text, the state after it, and the next record's number.

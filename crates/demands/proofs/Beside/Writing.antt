@@ -8,10 +8,12 @@ use native.Mathlib.Omega.{arith}
 use lib.Dec.{leb}
 use lib.ListN.{length, drop, length-append, length-map}
 use Rattle.words.specs.Answer.{Outcome, gives, refuses, pick}
+use Rattle.std.specs.Prelude.{Result, Ok}
 use Rattle.telegram.specs.Telegram.{Received}
 use Rattle.telegram.specs.Place.{from, words_at}
 use Rattle.telegram.specs.declared.Telegram.{Telegram}
 use Rattle.telegram.specs.declared.Found.{Found}
+use Rattle.telegram.specs.declared.NotFound.{NotFound}
 use Rattle.contact.specs.Judge.{Contact, all_alike, first_place, is_marker, read, marker, judgement, judge}
 use Rattle.contact.specs.Says.{says_judged}
 use Rattle.contact.specs.declared.Judged.{Judged}
@@ -87,11 +89,11 @@ module _ (m : Telegram) (s t n : ℕ) (rest : List ℕ) (most : 2 ≤ n) where
         let count : q.2 ≡ n = sent.counted q.0 q.1 q.2 q.3 ∙ as_many in
         cc
 
-    find_back : (w : List Found) → Comes b s t 0 (8 * (4 * n + 1)) w → w ≡ map (λ k. Found.At (32 * k) m) (from 0 n)
+    find_back : (w : List (Result Found NotFound)) → Comes b s t 0 (8 * (4 * n + 1)) w → w ≡ map (λ k. Ok (record { place = 32 * k; telegram = m })) (from 0 n)
     find_back w k =
         comes_all_sent o (is_clean m s t n rest) proper w k
-        ∙ ap (map (λ p. Found.At p m)) (sym (true_places o (is_clean m s t n rest) proper) ∙ places_are m s t n rest proper)
-        ∙ map-map (λ p. Found.At p m) (λ k. 32 * k) (from 0 n)
+        ∙ ap (map (λ p. Ok (record { place = p; telegram = m }))) (sym (true_places o (is_clean m s t n rest) proper) ∙ places_are m s t n rest proper)
+        ∙ map-map (λ p. Ok (record { place = p; telegram = m })) (λ k. 32 * k) (from 0 n)
 
 pub written_is_read : WrittenIsRead
 written_is_read c =

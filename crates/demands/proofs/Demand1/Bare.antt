@@ -1,7 +1,7 @@
 -- No refusal carries a figure, and what is refused stays as it was.
 -- Assumes nothing.
 use mathlib.Core.Path.{sym, ap, ◌∙◌}
-use Rattle.words.specs.Says.{says_short_read, says_short_written, says_long_read, says_long_written}
+use Rattle.words.specs.Says.{says_read, says_written}
 use Rattle.telegram.specs.Says.{says_pair, says_reach, says_telegram_read, says_found, says_surveyed}
 use Rattle.balise_writer.specs.Write.{Writing, write}
 use Rattle.balise_writer.specs.Says.{says_answer}
@@ -62,10 +62,10 @@ untouched = record {
       (ap (λ (x : Settling). x.waiting) is ∙ kept.0, sym c.4 ∙ ap (λ (x : Settling). x.buffer) is ∙ kept.1);
   group = group_refused;
   end = end_refused;
-  short_read_law = λ n r r' p q. told says_short_read words_are.short_read words_are.short_read_back r r' p q;
-  short_written = λ n r r' p q. told says_short_written words_are.short_written words_are.short_written_back r r' p q;
-  long_read = λ n r r' p q. told says_long_read words_are.long_read words_are.long_read_back r r' p q;
-  long_written = λ n r r' p q. told says_long_written words_are.long_written words_are.long_written_back r r' p q;
+  short_read_law = λ n r r' p q. told says_read words_are.word_read words_are.word_read_back r r' p q;
+  short_written = λ n r r' p q. told says_written words_are.word_written words_are.word_written_back r r' p q;
+  long_read = λ n r r' p q. told says_read words_are.word_read words_are.word_read_back r r' p q;
+  long_written = λ n r r' p q. told says_written words_are.word_written words_are.word_written_back r r' p q;
   pair = λ n r r' p q. told says_pair telegram_is.pair_of telegram_is.pair_back r r' p q;
   reach = λ n r r' p q. told says_reach telegram_is.reach_of telegram_is.reach_back r r' p q;
   telegram_read = λ n r r' p q. told says_telegram_read telegram_is.read_of telegram_is.read_back r r' p q;

@@ -11,15 +11,14 @@ use Rattle.words.specs.Answer.{Outcome, gives, refuses, pick}
 use Rattle.words.specs.Bits.{word}
 use Rattle.words.specs.Plain.{is_check, covers, count, carriers, carried, made_even, plain_word}
 use Rattle.words.specs.Code.{other, exchanged, sent, write_word, read_word, write_short}
-use Rattle.words.specs.Says.{says_short_read, says_short_written, says_long_read, says_long_written}
-use Rattle.words.specs.declared.ShortRead.{ShortRead}
-use Rattle.words.specs.declared.ShortWritten.{ShortWritten}
-use Rattle.words.specs.declared.LongRead.{LongRead}
-use Rattle.words.specs.declared.LongWritten.{LongWritten}
+use Rattle.words.specs.Says.{says_read, says_written}
 use Rattle.words.proofs.Told.{told}
 use Rattle.words.proofs.Ranges.{below}
 use Rattle.words.proofs.Codes.{short_written_read, short_read_written, long_written_read, long_read_written}
 use Rattle.words.proofs.Determined as words_are
+use Rattle.std.specs.Prelude.{Result, Ok}
+use Rattle.words.specs.declared.NotCode.{NotCode}
+use Rattle.words.specs.declared.TooLarge.{TooLarge}
 use Rattle.demands.specs.Cases.{M8}
 use Rattle.demands.specs.ByContract.{ReadShort, WriteShort, ReadLong, WriteLong}
 use Rattle.demands.specs.Demand2.{WrittenBack, ReadBack, Words}
@@ -42,17 +41,17 @@ module _ (n largest : ℕ) {A R : Type 0} (Writes : ℕ → A → Type 0) (word 
   read_back : (many : ℕ) → ((w x : ℕ) → w < many → read_word n w ≡ gives x → write_word n largest x ≡ gives w) → ReadBack many Writes word Reads figure
   read_back many law w x a l c k = written x w a k (law w x l (figured w x c))
 
-short_written : (x w : ℕ) (a : ShortWritten) → WriteShort x a → write_word 8 15 x ≡ gives w → a ≡ ShortWritten.Word w
-short_written x w a c e = told says_short_written words_are.short_written words_are.short_written_back a (ShortWritten.Word w) c.1 (sym e)
+short_written : (x w : ℕ) (a : Result ℕ TooLarge) → WriteShort x a → write_word 8 15 x ≡ gives w → a ≡ Ok w
+short_written x w a c e = told says_written words_are.word_written words_are.word_written_back a (Ok w) c.1 (sym e)
 
-short_reading : (w x : ℕ) (r : ShortRead) → ReadShort w r → read_word 8 w ≡ gives x → r ≡ ShortRead.Figure x
-short_reading w x r c e = told says_short_read words_are.short_read words_are.short_read_back r (ShortRead.Figure x) c.1 (sym e)
+short_reading : (w x : ℕ) (r : Result ℕ NotCode) → ReadShort w r → read_word 8 w ≡ gives x → r ≡ Ok x
+short_reading w x r c e = told says_read words_are.word_read words_are.word_read_back r (Ok x) c.1 (sym e)
 
-long_written : (x w : ℕ) (a : LongWritten) → WriteLong x a → write_word 16 2047 x ≡ gives w → a ≡ LongWritten.Word w
-long_written x w a c e = told says_long_written words_are.long_written words_are.long_written_back a (LongWritten.Word w) c.1 (sym e)
+long_written : (x w : ℕ) (a : Result ℕ TooLarge) → WriteLong x a → write_word 16 2047 x ≡ gives w → a ≡ Ok w
+long_written x w a c e = told says_written words_are.word_written words_are.word_written_back a (Ok w) c.1 (sym e)
 
-long_reading : (w x : ℕ) (r : LongRead) → ReadLong w r → read_word 16 w ≡ gives x → r ≡ LongRead.Figure x
-long_reading w x r c e = told says_long_read words_are.long_read words_are.long_read_back r (LongRead.Figure x) c.1 (sym e)
+long_reading : (w x : ℕ) (r : Result ℕ NotCode) → ReadLong w r → read_word 16 w ≡ gives x → r ≡ Ok x
+long_reading w x r c e = told says_read words_are.word_read words_are.word_read_back r (Ok x) c.1 (sym e)
 
 -- ---- M(8,4) as printed
 
@@ -75,9 +74,9 @@ m8_written x l = gives_this_law (write_short x) (get_or M8 x 0) (below as_printe
 
 pub words : Words
 words = record {
-  short_back = written_back 8 15 WriteShort ShortWritten.Word ReadShort ShortRead.Figure short_written short_reading (λ w x c. sym c.1) short_written_read;
-  long_back = written_back 16 2047 WriteLong LongWritten.Word ReadLong LongRead.Figure long_written long_reading (λ w x c. sym c.1) long_written_read;
-  short_itself = read_back 8 15 WriteShort ShortWritten.Word ReadShort ShortRead.Figure short_written short_reading (λ w x c. sym c.1) 256 short_read_written;
-  long_itself = read_back 16 2047 WriteLong LongWritten.Word ReadLong LongRead.Figure long_written long_reading (λ w x c. sym c.1) 65536 long_read_written;
+  short_back = written_back 8 15 WriteShort Ok ReadShort Ok short_written short_reading (λ w x c. sym c.1) short_written_read;
+  long_back = written_back 16 2047 WriteLong Ok ReadLong Ok long_written long_reading (λ w x c. sym c.1) long_written_read;
+  short_itself = read_back 8 15 WriteShort Ok ReadShort Ok short_written short_reading (λ w x c. sym c.1) 256 short_read_written;
+  long_itself = read_back 16 2047 WriteLong Ok ReadLong Ok long_written long_reading (λ w x c. sym c.1) 65536 long_read_written;
   m8 = λ x a l c. c.1 ∙ m8_written x l;
 }

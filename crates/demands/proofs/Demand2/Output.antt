@@ -1,5 +1,6 @@
 -- A listing of all records, and then the end, is what the program writes.
 -- Assumes nothing.
+use Rattle.std.specs.Prelude.{Ok}
 use Prim.Native.Nat.{ℕ, ◌+◌, ◌-◌, ◌*◌, ◌%◌, ◌≤◌, ◌<◌}
 use native.Mathlib.Omega.{arith}
 use mathlib.Core.Path.{◌≡◌, refl, sym, ap, ap₂, ◌∙◌}
@@ -26,7 +27,6 @@ use Rattle.ride_text.specs.Style.{plain}
 use Rattle.ride_text.specs.Text.{text_with, text, text_of, seen, decimal, digits}
 use Rattle.ride_text.specs.List.{Listing, list_of, list_taken, list}
 use Rattle.ride_text.specs.Says.{says_done}
-use Rattle.ride_text.specs.declared.Done.{Done}
 use Rattle.ride_text.specs.declared.Listed.{Listed}
 use Rattle.ride_text.proofs.Judging.{list_taken_law}
 use Rattle.ride_text.proofs.SameLines.{plainly, plain_listed}
@@ -67,7 +67,7 @@ all_listed trace before small enough =
 -- What `list` answers under a store of the program's gap, where all records have room.
 pub listed_so : (store : Store) (f : Ride) (l : Listed) (trace before after : List ℕ) → Forty store → bad_length trace ≡ false → records_in trace < largest64
     → 128 * records_in trace ≤ length before → Fresh f → ListInto plain f store 1 trace before l after
-    → (l.done ≡ Done.Took (records_in trace) (length (all_text trace))) × (l.ride ≡ (ridden trace).ride)
+    → (l.done ≡ Ok (record { records = records_in trace; bytes = length (all_text trace) })) × (l.ride ≡ (ridden trace).ride)
     × (after ≡ all_text trace ++ drop (length (all_text trace)) before)
 unfolding bad_length
 listed_so store f l trace before after forty good small enough fresh c =
@@ -76,7 +76,7 @@ listed_so store f l trace before after forty good small enough fresh c =
     ∙ sym (list_taken_law plain fresh_ride store 1 trace before gap.0 (not-false (eqb (length trace % 8) 0) good))
     ∙ ap (λ (gaps : ℕ → ℕ). list_taken plain gaps fresh_ride 1 (records trace) before) gap.1
     ∙ all_listed trace before small enough in (
-      told says_done listing_is.done_of listing_is.done_back l.done (Done.Took (records_in trace) (length (all_text trace))) (ap (λ (v : Listing). v.answer) is) refl,
+      told says_done listing_is.done_of listing_is.done_back l.done (Ok (record { records = records_in trace; bytes = length (all_text trace) })) (ap (λ (v : Listing). v.answer) is) refl,
       ap (λ (v : Listing). v.ride) is,
       sym c.6 ∙ ap (λ (v : Listing). v.out) is ∙ at_first (all_text trace) before,
     )

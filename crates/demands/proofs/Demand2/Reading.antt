@@ -9,19 +9,20 @@ use lib.Dec.{eqb}
 use borrow.Author.Tests.{ne_eqb, not-false}
 use Rattle.words.specs.Answer.{Answer, gives, refuses, then, pick}
 use Rattle.words.specs.Why.{Why, why, are, unsaid}
-use Rattle.words.specs.Says.{says_long_read}
-use Rattle.words.specs.declared.ShortRead.{ShortRead}
-use Rattle.words.specs.declared.LongRead.{LongRead}
+use Rattle.words.specs.Says.{says_read}
 use Rattle.words.proofs.Told.{told}
+use Rattle.std.specs.Prelude.{Result, Ok, Err}
+use Rattle.words.specs.declared.NotCode.{NotCode}
 use Rattle.telegram.specs.Stretch.{inside}
 use Rattle.telegram.specs.Sync.{is_good}
 use Rattle.telegram.specs.Telegram.{Received, named, not_fifteen, short_word, long_word, telegram}
 use Rattle.telegram.specs.declared.Word.{Word}
 use Rattle.telegram.specs.Place.{words_at, places}
 use Rattle.telegram.specs.Says.{says_telegram_read}
+use Rattle.telegram.specs.declared.BadWord.{BadWord}
 use Rattle.telegram.specs.declared.Found.{Found}
+use Rattle.telegram.specs.declared.NotFound.{NotFound}
 use Rattle.telegram.specs.declared.Telegram.{Telegram}
-use Rattle.telegram.specs.declared.TelegramRead.{TelegramRead}
 use Rattle.telegram.proofs.Determined as telegram_is
 use Rattle.telegram.proofs.Handed.{handed}
 use Rattle.telegram.proofs.Law.{with_telegrams, law, only}
@@ -43,7 +44,7 @@ unfolding short_word
 bad_word w (no_code c) = ap (λ (o : Answer Why ℕ). then o not_fifteen) (sym c.1)
 bad_word w (is_15 c) = ap (λ (o : Answer Why ℕ). then o not_fifteen) (sym c.1)
 
-long_word_law : (y z : ℕ) (r : LongRead) → ReadLong (y * 256 + z) r → long_word y z ≡ says_long_read r
+long_word_law : (y z : ℕ) (r : Result ℕ NotCode) → ReadLong (y * 256 + z) r → long_word y z ≡ says_read r
 unfolding long_word
 long_word_law y z r c = sym c.1
 
@@ -58,7 +59,7 @@ unfolding telegram y_then_z
 on_x x y z o e =
     ap (λ (o : Answer Why ℕ). then (named Word.X o) (λ a. pick (eqb a 12) (then (named Word.YZ (long_word y z)) (λ m. gives (Telegram.Number m))) (y_then_z y z a))) e
 
-on_yz : (x y z : ℕ) (o : Answer Why ℕ) → ReadShort x (ShortRead.Figure 12) → long_word y z ≡ o → telegram x y z ≡ then (named Word.YZ o) (λ m. gives (Telegram.Number m))
+on_yz : (x y z : ℕ) (o : Answer Why ℕ) → ReadShort x (Ok 12) → long_word y z ≡ o → telegram x y z ≡ then (named Word.YZ o) (λ m. gives (Telegram.Number m))
 on_yz x y z o c e =
     on_x x y z (gives 12) (good_word x 12 (c, λ p. omega arith)) ∙ ap (λ (o : Answer Why ℕ). then (named Word.YZ o) (λ m. gives (Telegram.Number m))) e
 
@@ -75,7 +76,7 @@ on_z : (x y z a b : ℕ) (o : Answer Why ℕ) → Good x a → (a ≡ 12 → ⊥
 on_z x y z a b o g other h e =
     on_y x y z a (gives b) g other (good_word y b h) ∙ ap (λ (o : Answer Why ℕ). then (named Word.Z o) (λ c. gives (Telegram.Figures a b c))) e
 
-is_read : (o : Received) (r r' : TelegramRead) → says_telegram_read r ≡ o → o ≡ says_telegram_read r' → r ≡ r'
+is_read : (o : Received) (r r' : Result Telegram BadWord) → says_telegram_read r ≡ o → o ≡ says_telegram_read r' → r ≡ r'
 is_read o r r' p q = told says_telegram_read telegram_is.read_of telegram_is.read_back r r' p (sym q)
 
 -- ---- every place once
@@ -84,32 +85,36 @@ places_of : (b : List ℕ) (ps : List ℕ) → map single_place (with_telegrams 
 places_of b [] = refl
 places_of b (p ∷ ps) = ap (λ (qs : List ℕ). p ∷ qs) (places_of b ps)
 
-once : (b : List ℕ) (start len s t : ℕ) (w : List Found) → is_good s t ≡ true → inside b start len ≡ true → Comes b s t start len w
+once : (b : List ℕ) (start len s t : ℕ) (w : List (Result Found NotFound)) → is_good s t ≡ true → inside b start len ≡ true → Comes b s t start len w
     → map place_of w ≡ places b start len s t
 once b start len s t w good taken c =
     let r = comes_listed c in
     r.3 ∙ ap (map single_place) (only b s t r.1 (law b s t good start len taken)) ∙ places_of b (places b start len s t)
 
-words_there : {b : List ℕ} {s t start len : ℕ} {w : List Found} (p : ℕ) (m : Telegram) → Comes b s t start len w → Memᴰ (Found.At p m) w
+abbrev telegram_in : Result Found NotFound → Telegram
+telegram_in (Ok f) = f.telegram
+telegram_in (Err e) = Telegram.Number 0
+
+words_there : {b : List ℕ} {s t start len : ℕ} {w : List (Result Found NotFound)} (p : ℕ) (m : Telegram) → Comes b s t start len w → Memᴰ (Ok (record { place = p; telegram = m })) w
     → gives m ≡ words_at b p
 words_there p m (ends _) l = elim l [ ]
 words_there {b} {s} {t} {start} {len} p m (further {p = q} {m = n} k c) (Memᴰ.head e) =
-    let says : gives n ≡ words_at b q = (handed b start len s t q (gives n) (specified b start len s t (Found.At q n) k)).says in
-    let same_m : m ≡ n = cc in
-    let same_p : p ≡ q = cc in
+    let says : gives n ≡ words_at b q = (handed b start len s t q (gives n) (specified b start len s t (Ok (record { place = q; telegram = n })) k)).says in
+    let same_m : m ≡ n = ap telegram_in e in
+    let same_p : p ≡ q = ap place_of e in
     ap (λ (v : Telegram). gives v) same_m ∙ says ∙ ap (words_at b) (sym same_p)
 words_there p m (further k c) (Memᴰ.tail l) = words_there p m c l
 
 pub telegrams : Telegrams
 unfolding not_seven is_good
 telegrams = record {
-  number = λ x y z m r c d e. is_read (telegram x y z) r (TelegramRead.Is (Telegram.Number m)) c.1 (on_yz x y z (gives m) d (long_word_law y z (LongRead.Figure m) e));
+  number = λ x y z m r c d e. is_read (telegram x y z) r (Ok (Telegram.Number m)) c.1 (on_yz x y z (gives m) d (long_word_law y z (Ok m) e));
   figures = λ x y z a b c r k g other h i.
-      is_read (telegram x y z) r (TelegramRead.Is (Telegram.Figures a b c)) k.1 (on_z x y z a b (gives c) g other h (good_word z c i));
+      is_read (telegram x y z) r (Ok (Telegram.Figures a b c)) k.1 (on_z x y z a b (gives c) g other h (good_word z c i));
   x_decides = λ x y z b r c bad. c.1 ∙ on_x x y z (refuses b) (bad_word x bad);
   y_decides = λ x y z a b r c g other bad. c.1 ∙ on_y x y z a (refuses b) g other (bad_word y bad);
   z_decides = λ x y z a b d r c g other h bad. c.1 ∙ on_z x y z a b (refuses d) g other h (bad_word z bad);
-  yz_decides = λ x y z p r c d e. c.1 ∙ on_yz x y z (refuses (why 1 (are p))) d (long_word_law y z (LongRead.NotCode p) e);
+  yz_decides = λ x y z p r c d e. c.1 ∙ on_yz x y z (refuses (why 1 (are p))) d (long_word_law y z (Err (record { 0 = p })) e);
   handed_once = λ b start len s t w good taken c.
       once b start len s t w (not-false (is_good s t) good) (not-false (inside b start len) (sym (beyond_is b start len) ∙ taken)) c;
   with_words = λ b start len s t p m w c l. words_there p m c l;

@@ -5,10 +5,10 @@ use mathlib.Core.Bool.{Bool, true, false, not, ◌&&◌}
 use mathlib.Core.List.{List, [], ◌∷◌, ◌++◌}
 use Prim.Native.Nat.{◌+◌, ◌-◌, ◌*◌}
 use borrow.Author.Tests.{lt-ltb, le-ltb}
+use Rattle.std.specs.Prelude.{Ok}
 use Rattle.words.specs.Answer.{gives, pick}
 use Rattle.group.specs.Judge.{judge}
 use Rattle.group.specs.declared.Group.{Group}
-use Rattle.group.specs.declared.GroupJudged.{GroupJudged}
 use Rattle.group.specs.declared.Message.{Message}
 use Rattle.group.specs.declared.Number.{Number}
 use Rattle.group.specs.declared.Told.{Told}
@@ -70,7 +70,7 @@ line_so : (g : Group) (m : Message) → judge g ≡ gives m → (linking : Linki
 line_so g m judged linking mark number marked numbered =
     ap₂ (λ (v : Mark) (n : Number). line_of m v n) (mark_so g m judged linking mark marked) (number_so m number numbered)
 
-module _ (o : OneStep) (m : Message) (b : LeavesBehind o) (j : JudgeGroup o.ride.group (GroupJudged.Accepted m)) where
+module _ (o : OneStep) (m : Message) (b : LeavesBehind o) (j : JudgeGroup o.ride.group (Ok m)) where
   -- what is known after it, before step 3
   abbrev told : Known
   told = known_from m.content m.place m.number (before o)
@@ -131,7 +131,7 @@ moved o a = ap (λ (v : Step). v.ride.odometer) (goes_on o a)
 
 -- ---- the end
 
-ended_so : (ride : Ride) (r : Ended) (m : Message) (mark : Mark) (number : Number) → EndOf ride r → is_open_meant ride.group ≡ true → JudgeGroup ride.group (GroupJudged.Accepted m)
+ended_so : (ride : Ride) (r : Ended) (m : Message) (mark : Mark) (number : Number) → EndOf ride r → is_open_meant ride.group ≡ true → JudgeGroup ride.group (Ok m)
     → IsMarked ride.known.linking m mark → IsNumbered m number
     → (says_ended r ≡ ended ride.odometer (record { lines = line_of m mark number ∷ []; closed = ride.group; group = no_group; known = known_from m.content m.place m.number ride.known }))
 unfolding end close

@@ -5,6 +5,7 @@ use mathlib.Core.Path.{◌≡◌, refl, sym, ap, ◌∙◌}
 use mathlib.Core.Bool.{Bool, true, false, ◌&&◌}
 use mathlib.Core.List.{List}
 use lib.Dec.{eqb, ltb}
+use Rattle.std.specs.Prelude.{Ok}
 use Rattle.words.specs.Answer.{Outcome, gives, refuses, pick}
 use Rattle.words.proofs.Told.{told}
 use Rattle.group.specs.Balise.{balises, then, read_all}
@@ -16,7 +17,6 @@ use Rattle.group.specs.Judge.{y_of, z_of, B, C, P, distance_of, signal_distance,
 use Rattle.group.specs.Says.{says_measured}
 use Rattle.group.specs.declared.Content.{Content}
 use Rattle.group.specs.declared.Group.{Group}
-use Rattle.group.specs.declared.Measured.{Measured}
 use Rattle.group.specs.declared.Message.{Message}
 use Rattle.group_rows.specs.declared.Placed.{Placed}
 use Rattle.group.specs.declared.Told.{Told}
@@ -51,7 +51,7 @@ rows_judge g one five u =
 
 announces : (bs : List Placed) (d : ℕ) → distance_of bs ≡ gives d → Announces bs d
 unfolding distance_of
-announces bs d e q c = told says_measured group_is.measured group_is.measured_back q (Measured.Dm d) c.1 (sym (linked (y_of (B bs)) (z_of (B bs)) d (C bs) e))
+announces bs d e q c = told says_measured group_is.measured group_is.measured_back q (Ok d) c.1 (sym (linked (y_of (B bs)) (z_of (B bs)) d (C bs) e))
 
 -- a distance that is given is table DF's, and no preset point's that cannot be
 given : (az : ℕ) (bs : List Placed) (d : ℕ) → signal_distance az bs ≡ gives d → (is_preset (y_of (B bs)) && no_increase az ≡ false) × (distance_of bs ≡ gives d)

@@ -7,11 +7,12 @@ use mathlib.Core.List.{[], ◌∷◌}
 use Prim.Native.Nat.{ℕ, ◌+◌, ◌-◌, ◌≤◌}
 use lib.Dec.{ltb}
 use borrow.Author.Tests.{lt-ltb, le-ltb, not-false}
+use Rattle.std.specs.Prelude.{Result}
 use Rattle.words.specs.Answer.{Outcome, gives, refuses, pick}
 use Rattle.group.specs.Judge.{judge}
 use Rattle.group.specs.declared.Message.{Message}
 use Rattle.group.specs.Says.{says_group_judged}
-use Rattle.group.specs.declared.GroupJudged.{GroupJudged}
+use Rattle.group.specs.declared.GroupRefused.{GroupRefused}
 use Rattle.ride.specs.Record.{Entry}
 use Rattle.ride.specs.State.{no_group, is_open_meant, nothing_known}
 use Rattle.ride.specs.Joining.{allowed, take_up}
@@ -71,7 +72,7 @@ stays_open o a is near =
 -- ---- a refused group
 
 -- A refused group leaves no group but the one that the record opens, and nothing known.
-pub group_refused : (o : OneStep) (j : GroupJudged) (n : ℕ) → LeavesBehind o → JudgeGroup o.ride.group j → says_group_judged j ≡ refuses n
+pub group_refused : (o : OneStep) (j : Result Message GroupRefused) (n : ℕ) → LeavesBehind o → JudgeGroup o.ride.group j → says_group_judged j ≡ refuses n
     → says_stepped o.answer
     ≡ record {
       lines = gives (Line.Fault (first_place o.ride.group) n ∷ []);
@@ -82,7 +83,7 @@ unfolding no_group nothing_known missed_lines after_missed
 group_refused o j n b c e = closes o b (refuses n) (sym c.1 ∙ e)
 
 -- So does the end.
-pub end_refused : (ride : Ride) (r : Ended) (j : GroupJudged) (n : ℕ) → EndOf ride r → is_open_meant ride.group ≡ true → JudgeGroup ride.group j
+pub end_refused : (ride : Ride) (r : Ended) (j : Result Message GroupRefused) (n : ℕ) → EndOf ride r → is_open_meant ride.group ≡ true → JudgeGroup ride.group j
     → says_group_judged j ≡ refuses n
     → says_ended r
     ≡ record {

@@ -1,5 +1,6 @@
 -- What a listing comes to.
 -- Assumes nothing.
+use Rattle.std.specs.Prelude.{Ok}
 use Prim.Native.Nat.{ℕ, ◌+◌, ◌*◌, ◌%◌, ◌≤◌}
 use native.Mathlib.Omega.{arith}
 use native.Mathlib.Nat.{zero-add}
@@ -22,7 +23,6 @@ use Rattle.ride_text.specs.Style.{plain}
 use Rattle.ride_text.specs.Text.{text_of}
 use Rattle.ride_text.specs.List.{taken, Listing, list_taken, list}
 use Rattle.ride_text.specs.Says.{says_done, says_listed}
-use Rattle.ride_text.specs.declared.Done.{Done}
 use Rattle.ride_text.specs.declared.Listed.{Listed}
 use Rattle.ride_text.proofs.Judging.{list_taken_law}
 use Rattle.ride_text.proofs.SameLines.{plain_listed}
@@ -50,7 +50,7 @@ takes_by gaps ride number trace before l after listed =
     record {
       n = n;
       bytes = length w;
-      took = told says_done listing_is.done_of listing_is.done_back l.done (Done.Took n (length w)) (ap (λ (v : Listing). v.answer) is) refl;
+      took = told says_done listing_is.done_of listing_is.done_back l.done (Ok (record { records = n; bytes = length w })) (ap (λ (v : Listing). v.answer) is) refl;
       of_these = subst (λ (k : ℕ). n ≤ k) many (few_taken plain gaps (records trace) ride number (length before));
       one_at_least = λ some room small. one_taken plain gaps (records trace) ride number (length before) (subst (λ (k : ℕ). 1 ≤ k) (sym many) some) room small;
       all_with_room = λ enough small.

@@ -8,9 +8,11 @@ use lib.Dec.{eqb}
 use borrow.Author.Tests.{eq-eqb}
 use Rattle.words.specs.Answer.{gives}
 use Rattle.words.specs.Plain.{among}
+use Rattle.std.specs.Prelude.{Result, Ok}
 use Rattle.telegram.specs.Place.{words_at, from, those, at}
 use Rattle.telegram.specs.declared.Telegram.{Telegram}
 use Rattle.telegram.specs.declared.Found.{Found}
+use Rattle.telegram.specs.declared.NotFound.{NotFound}
 use Rattle.telegram.proofs.Determined.{found_back}
 use Rattle.telegram.proofs.Law.{with_telegrams}
 use Rattle.balise_line.specs.Line.{OneBalise, Proper, Clean, sent_at, places_of}
@@ -29,11 +31,11 @@ with_message b m (p ∷ ps) all =
     ap₂ ◌∷◌ (ap (at p) (all p (or_left (among p ps) (eq-eqb p p refl)))) (with_message b m ps (λ r there. all r (or_right (eqb r p) there)))
 
 -- The places listed, as `find` answers them.
-answers : (m : Telegram) (ps : List ℕ) → map answer_of (map (λ p. at p (gives m)) ps) ≡ map (λ p. Found.At p m) ps
+answers : (m : Telegram) (ps : List ℕ) → map answer_of (map (λ p. at p (gives m)) ps) ≡ map (λ p. Ok (record { place = p; telegram = m })) ps
 answers m [] = refl
-answers m (p ∷ ps) = ap₂ ◌∷◌ (found_back (Found.At p m)) (answers m ps)
+answers m (p ∷ ps) = ap₂ ◌∷◌ (found_back (Ok (record { place = p; telegram = m }))) (answers m ps)
 
-pub comes_all_sent : (o : OneBalise) → Clean o → Proper o → (w : List Found) → ComesOf o w → w ≡ all_sent o
+pub comes_all_sent : (o : OneBalise) → Clean o → Proper o → (w : List (Result Found NotFound)) → ComesOf o w → w ≡ all_sent o
 comes_all_sent o clean proper w c =
     comes_is o proper w c
     ∙ ap (map answer_of)

@@ -17,7 +17,7 @@ use Rattle.telegram.specs.declared.Telegram.{Telegram}
 use Rattle.contact.specs.Judge.{Contact, read, marker, is_marker, judge}
 use Rattle.settings.specs.declared.Store.{Store}
 use Rattle.settings.specs.declared.Held.{Held}
-use Rattle.settings.specs.declared.Asked.{Asked}
+use Rattle.std.specs.Prelude.{Ok}
 use Rattle.settings.specs.At.{asked}
 use Rattle.contact.specs.Under.{judge_under}
 use Rattle.contact.specs.Says.{says_judged, says_judged_under}
@@ -123,7 +123,7 @@ module _ (o : OneBalise) (proper : Proper o) (every-place : AllSent o) where
   with_pair store odometer held e s t =
       ap (λ (a : Outcome Held). then a (λ h. judge o.buffer o.start o.len h.s h.t)) e ∙ ap₂ (judge o.buffer o.start o.len) s t
 
-  pub under_sent : (store : Store) (odometer : ℕ) (held : Held) (r : JudgedUnder) → AskAt store odometer (Asked.InForce held) → held.s ≡ o.s → held.t ≡ o.t
+  pub under_sent : (store : Store) (odometer : ℕ) (held : Held) (r : JudgedUnder) → AskAt store odometer (Ok held) → held.s ≡ o.s → held.t ≡ o.t
       → JudgeUnder store odometer o.buffer o.start o.len r → JudgedTheSent o (says_judged_under r)
   under_sent store odometer held r a s t c =
       subst (JudgedTheSent o)

@@ -11,6 +11,7 @@ use Rattle.words.specs.Answer.{gives}
 use Rattle.words.specs.Bits.{word}
 use Rattle.words.specs.Plain.{is_check, covers, count, even, is_code, onwards, figure}
 use Rattle.words.specs.Code.{other, exchanged, read_word}
+use Rattle.std.specs.Prelude.{Result}
 use Rattle.telegram.specs.Stretch.{bits_at, inside}
 use Rattle.telegram.specs.Sync.{differing, is_good}
 use Rattle.telegram.specs.Telegram.{short_word, long_word, telegram}
@@ -18,6 +19,7 @@ use Rattle.telegram.specs.Place.{are_syncs, words_at, is_place, from, those, pla
 use Rattle.telegram.specs.Says.{says_found}
 use Rattle.telegram.specs.declared.Telegram.{Telegram}
 use Rattle.telegram.specs.declared.Found.{Found}
+use Rattle.telegram.specs.declared.NotFound.{NotFound}
 use Rattle.demands.specs.ByContract.{Find}
 use Rattle.balise_line.specs.Line.{OneBalise, sent_bit, received_bit, in_stretch, unequal, flip, sum, flips, sync_flips, data_flips, line_bit, sent_at}
 use Rattle.demands.proofs.Demand3.Handed.{specified}
@@ -40,7 +42,7 @@ apart_flips : (sync_flips apart 0 ≡ 0) × (data_flips apart 0 ≡ 2) × (sync_
 unfolding sync_flips data_flips flips sum flip in_stretch unequal received_bit sent_bit
 apart_flips = (refl, refl, refl, refl)
 
-apart_found : (r : Found) → Find apart.buffer 0 40 apart.s apart.t r → says_found r ≡ gives (at 0 (gives (Telegram.Figures 5 8 3)))
+apart_found : (r : Result Found NotFound) → Find apart.buffer 0 40 apart.s apart.t r → says_found r ≡ gives (at 0 (gives (Telegram.Figures 5 8 3)))
 unfolding find is_good differing inside places those from is_place are_syncs words_at bits_at telegram short_word long_word read_word is_code even count covers exchanged other word figure onwards is_check
 apart_found r k = sym (specified apart.buffer apart.start apart.len apart.s apart.t r k)
 
@@ -61,7 +63,7 @@ sync_flip_flips : (sync_flips sync_flip 0 ≡ 0) × (data_flips sync_flip 0 ≡ 
 unfolding sync_flips data_flips flips sum flip in_stretch unequal received_bit sent_bit
 sync_flip_flips = (refl, refl, refl, refl)
 
-sync_flip_found : (r : Found) → Find sync_flip.buffer 0 40 sync_flip.s sync_flip.t r → says_found r ≡ gives (at 0 (gives (Telegram.Figures 0 0 0)))
+sync_flip_found : (r : Result Found NotFound) → Find sync_flip.buffer 0 40 sync_flip.s sync_flip.t r → says_found r ≡ gives (at 0 (gives (Telegram.Figures 0 0 0)))
 unfolding find is_good differing inside places those from is_place are_syncs words_at bits_at telegram short_word long_word read_word is_code even count covers exchanged other word figure onwards is_check
 sync_flip_found r k = sym (specified sync_flip.buffer sync_flip.start sync_flip.len sync_flip.s sync_flip.t r k)
 

@@ -12,12 +12,14 @@ use lib.ListN.{length}
 use borrow.Author.Tests.{eq-eqb}
 use Rattle.words.specs.Answer.{Outcome, gives, refuses, pick}
 use Rattle.words.specs.Plain.{among}
+use Rattle.std.specs.Prelude.{Result}
 use Rattle.telegram.specs.Telegram.{Received}
 use Rattle.telegram.specs.Place.{words_at}
 use Rattle.telegram.specs.Survey.{all_as, Alike, alike, together, survey}
 use Rattle.telegram.specs.Says.{says_surveyed}
 use Rattle.telegram.specs.declared.Telegram.{Telegram}
 use Rattle.telegram.specs.declared.Surveyed.{Surveyed}
+use Rattle.telegram.specs.declared.NotAlike.{NotAlike}
 use Rattle.balise_line.specs.Line.{OneBalise, Proper, places_of}
 use Rattle.demands.specs.ByContract.{Survey as SurveyAllows}
 use Rattle.demands.specs.Demand3.{TheSent, SurveyedTheSent}
@@ -119,5 +121,5 @@ module _ (o : OneBalise) (proper : Proper o) (every-place : AllSent o) where
           let same_k : r.count ≡ count = cc in
           same_known same_m same_p same_k r.known
 
-  pub survey_sent : (r : Surveyed) → SurveyAllows b o.start o.len o.s o.t r → SurveyedTheSent o (says_surveyed r)
+  pub survey_sent : (r : Result Surveyed NotAlike) → SurveyAllows b o.start o.len o.s o.t r → SurveyedTheSent o (says_surveyed r)
   survey_sent r c = subst (SurveyedTheSent o) (sym (c.4 ∙ ap (λ (v : List ℕ). survey v o.start o.len o.s o.t) c.3)) survey_told

@@ -9,13 +9,15 @@ use denote.Ref.{Bor}
 use Rattle.words.specs.Bits.{word}
 use Rattle.words.specs.Plain.{is_check, covers, count, even, is_code, onwards, figure}
 use Rattle.words.specs.Code.{other, exchanged, read_word}
-use Rattle.words.specs.declared.ShortRead.{ShortRead}
+use Rattle.std.specs.Prelude.{Ok, Err}
+use Rattle.words.specs.declared.NotCode.{NotCode}
 use Rattle.telegram.specs.Stretch.{bits_at, inside}
 use Rattle.telegram.specs.Sync.{differing, is_good}
 use Rattle.telegram.specs.Telegram.{short_word, long_word, telegram}
 use Rattle.telegram.specs.Place.{are_syncs, words_at, is_place, from, those, places, find}
 use Rattle.telegram.specs.declared.Telegram.{Telegram}
 use Rattle.telegram.specs.declared.Found.{Found}
+use Rattle.telegram.specs.declared.NotFound.{NotFound}
 use Rattle.demands.specs.ByContract.{ReadShort, Find}
 use Rattle.demands.specs.Calls.{HandedOut, first, later, further, ends}
 use Rattle.demands.specs.Demand3.{ComesOf}
@@ -23,7 +25,7 @@ use Rattle.demands.proofs.Witness.Witnesses.{line, one}
 
 -- The noise law: a one was sent, 8E hex flipped, which is the code word of eight, and a nine is
 -- read: one and eight, added without carry.
-one_sent : ReadShort 0x17 (ShortRead.Figure 1) × ReadShort 0x99 (ShortRead.Figure 9)
+one_sent : ReadShort 0x17 (Ok 1) × ReadShort 0x99 (Ok 9)
 unfolding read_word is_code even count covers figure onwards is_check exchanged other word
 one_sent = (((0x17, tt), refl), ((0x99, tt), refl))
 
@@ -44,7 +46,7 @@ second_call : Find (line 0x10).buffer 49 79 0x72 0x0d (one 80)
 unfolding find is_good differing inside places those from is_place are_syncs words_at bits_at telegram short_word long_word read_word is_code even count covers exchanged other word figure onwards is_check
 second_call = (([], tt), lent (line 0x10).buffer, (lent (line 0x10).buffer, (49, (79, (0x72, (0x0d, tt))))), refl, refl)
 
-third_call : Find (line 0x10).buffer 81 47 0x72 0x0d Found.NoPlace
+third_call : Find (line 0x10).buffer 81 47 0x72 0x0d (Err NotFound.NoPlace)
 unfolding find is_good differing inside places those from is_place are_syncs words_at bits_at telegram short_word long_word read_word is_code even count covers exchanged other word figure onwards is_check
 third_call = (([], tt), lent (line 0x10).buffer, (lent (line 0x10).buffer, (81, (47, (0x72, (0x0d, tt))))), refl, refl)
 

@@ -1,6 +1,7 @@
 -- The hypotheses on calls of `list` are met, in either style and under any good store: any card of
 -- whole records is listed by one call with room for all of it.
 -- Assumes nothing.
+use Rattle.std.specs.Prelude.{Ok}
 use Prim.Native.Nat.{ℕ, ◌+◌, ◌*◌, ◌%◌, ◌≤◌}
 use native.Mathlib.Omega.{arith}
 use mathlib.Core.Path.{◌≡◌, refl, sym, ap, ◌∙◌}
@@ -18,7 +19,6 @@ use Rattle.ride.specs.Over.{records}
 use Rattle.ride.proofs.Cutting.{records_length}
 use Rattle.ride_text.specs.Style.{Style}
 use Rattle.ride_text.specs.Told.{Told, tell_over}
-use Rattle.ride_text.specs.declared.Done.{Done}
 use Rattle.ride_text.specs.declared.Listed.{Listed}
 use Rattle.ride_text.specs.List.{Listing, room_for, taken, list_of, list_taken}
 use Rattle.ride_text.specs.Says.{says_listed}
@@ -48,7 +48,7 @@ module _ (style : Style) (store : Store) (ride : Ride) (number : ℕ) (card : Li
       record {
         block = card;
         before = room;
-        answer = record { ride = told.ride; number = number + length rs; done = Done.Took (length rs) (length told.text) };
+        answer = record { ride = told.ride; number = number + length rs; done = Ok (record { records = length rs; bytes = length told.text }) };
         after = placed told.text room 0;
       }
 

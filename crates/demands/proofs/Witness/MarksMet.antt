@@ -6,6 +6,7 @@ use native.Mathlib.Omega.{arith}
 use mathlib.Core.Path.{refl}
 use mathlib.Core.Bool.{false}
 use mathlib.Core.List.{List, [], ◌∷◌}
+use Rattle.std.specs.Prelude.{Ok}
 use Rattle.words.specs.Bits.{word}
 use Rattle.words.specs.Plain.{is_check, covers, count, even, is_code, onwards, figure}
 use Rattle.words.specs.Code.{other, exchanged, read_word}
@@ -22,7 +23,6 @@ use Rattle.group.specs.declared.Content.{Content}
 use Rattle.group_rows.specs.declared.Direction.{Direction}
 use Rattle.group.specs.declared.Group.{Group}
 use Rattle.group.specs.declared.Heard.{Heard}
-use Rattle.group.specs.declared.GroupJudged.{GroupJudged}
 use Rattle.group_rows.specs.declared.Kind.{Kind}
 use Rattle.group.specs.declared.Message.{Message}
 use Rattle.group.specs.declared.Number.{Number}
@@ -38,7 +38,7 @@ use Rattle.ride.specs.declared.Lines.{Lines}
 use Rattle.ride.specs.declared.Linking.{Linking}
 use Rattle.ride.specs.declared.Mark.{Mark}
 use Rattle.ride.specs.declared.Passed.{Passed}
-use Rattle.ride.specs.declared.Report.{Report}
+use Rattle.std.specs.Prelude.{Ok}
 use Rattle.ride.specs.declared.Ride.{Ride}
 use Rattle.demands.specs.Table.{bad_gap}
 use Rattle.demands.specs.ByContract.{StepOf, JudgeGroup}
@@ -76,7 +76,7 @@ last_step linking mark =
             ride = record { odometer = 6000; group = no_group; known = record { linking = Linking.Unset; main = Told.Kmh 130; target = Told.Kmh 80; number = Number.None } };
             closed = its_group;
             report =
-                Report.Lines
+                Ok
                 (Lines.Two (Line.Group (record { place = 1000; direction = Direction.Present; kind = Kind.Signal; mark = mark; number = Number.None })) (Line.Missed 5800));
           };
     }
@@ -110,7 +110,7 @@ behind linking mark called =
 
 -- What the theorem `closes` asks.
 abbrev Met : Linking → Mark → Type 0
-Met linking mark = LeavesBehind (last_step linking mark) × JudgeGroup its_group (GroupJudged.Accepted its_message) × IsMarked linking its_message mark
+Met linking mark = LeavesBehind (last_step linking mark) × JudgeGroup its_group (Ok its_message) × IsMarked linking its_message mark
 
 -- what the step was lent
 abbrev lent : Linking → Ride × (ℕ × (List ℕ × Unit {0}))
@@ -118,7 +118,7 @@ lent linking = ((last_step linking Mark.First).ride, (40, (last, tt)))
 
 -- D = 500: 4D is 5 x 400, 6D is 5 x 600. At 399 early, at 400 and 600 good, at 601 late; with no
 -- linking first.
-pub its_answers : JudgeGroup its_group (GroupJudged.Accepted its_message) × Answered Linking.Unset Mark.First × Answered (Linking.Set 500 601) Mark.Early
+pub its_answers : JudgeGroup its_group (Ok its_message) × Answered Linking.Unset Mark.First × Answered (Linking.Set 500 601) Mark.Early
     × Answered (Linking.Set 500 600) Mark.Good × Answered (Linking.Set 500 400) Mark.Good × Answered (Linking.Set 500 399) Mark.Late
 unfolding read_word is_code even count covers figure onwards is_check exchanged other word short_word long_word telegram balises read_all fits first fit_row_meant fit_rows how_many fit_in fitting distance signal_speed target_figure route_speed distance_of signal_distance number_of judge_read judge odometer_of passed_of in_order_meant check_record no_group nothing_known fresh_ride join take_up mark_at close leave close_behind missed_lines after_missed go_on treat step bad_gap
 its_answers = (

@@ -5,6 +5,7 @@ use Prim.Native.Nat.{ℕ}
 use mathlib.Core.Path.{refl}
 use mathlib.Core.Bool.{false}
 use mathlib.Core.List.{[], ◌∷◌}
+use Rattle.std.specs.Prelude.{Ok}
 use Rattle.words.specs.Bits.{word}
 use Rattle.words.specs.Plain.{is_check, covers, count, even, is_code, onwards, figure}
 use Rattle.words.specs.Code.{other, exchanged, read_word}
@@ -21,7 +22,6 @@ use Rattle.group.specs.Numbers.{number_of}
 use Rattle.group.specs.Judge.{distance_of, signal_distance, judge_read, judge}
 use Rattle.group.specs.declared.Content.{Content}
 use Rattle.group.specs.declared.Group.{Group}
-use Rattle.group.specs.declared.GroupJudged.{GroupJudged}
 use Rattle.group.specs.declared.Message.{Message}
 use Rattle.group.specs.declared.Number.{Number}
 use Rattle.group.specs.declared.Told.{Told}
@@ -72,14 +72,14 @@ ended g m mark known =
     }
 
 -- The present one sets the number.
-ahead_met : JudgeGroup ahead (GroupJudged.Accepted ahead_said) × IsNumbered ahead_said (Number.Figure 1612)
+ahead_met : JudgeGroup ahead (Ok ahead_said) × IsNumbered ahead_said (Number.Figure 1612)
     × EndOf (open_ride ahead)
     (ended ahead ahead_said Mark.First (record { linking = Linking.Set 4000 1000; main = Told.Kmh 130; target = Told.Kmh 80; number = Number.Figure 1612 }))
 unfolding read_word is_code even count covers figure onwards is_check exchanged other word short_word long_word telegram balises read_all fits first fit_row_meant fit_rows how_many fit_in fitting distance signal_speed target_figure distance_of signal_distance number_of judge_read judge no_group close end
 ahead_met = (((ahead, tt), refl), of_signal refl, ((open_ride ahead, tt), refl))
 
 -- The opposite one shows its own and leaves the state's.
-back_met : JudgeGroup back (GroupJudged.Accepted back_said) × IsNumbered back_said (Number.Figure 1612)
+back_met : JudgeGroup back (Ok back_said) × IsNumbered back_said (Number.Figure 1612)
     × EndOf (open_ride back) (ended back back_said Mark.Unmarked before)
 unfolding read_word is_code even count covers figure onwards is_check exchanged other word short_word long_word telegram balises read_all fits first fit_row_meant fit_rows how_many fit_in fitting distance signal_speed target_figure distance_of signal_distance number_of judge_read judge no_group close end
 back_met = (((back, tt), refl), of_signal refl, ((open_ride back, tt), refl))

@@ -11,7 +11,7 @@ use Rattle.ride.specs.Closing.{leave}
 use Rattle.ride.specs.Step.{close_behind, missed_lines, after_missed, go_on, treat, step}
 use Rattle.ride.specs.declared.Lines.{Lines}
 use Rattle.ride.specs.declared.Passed.{Passed}
-use Rattle.ride.specs.declared.Report.{Report}
+use Rattle.std.specs.Prelude.{Ok}
 use Rattle.demands.specs.Table.{bad_gap}
 use Rattle.demands.specs.Steps.{OneStep, NoneOpen}
 use Rattle.demands.specs.Reasons.{Joined, opened, joined}
@@ -30,7 +30,7 @@ opens_step =
       bytes = first;
       odometer = 1000;
       passed = Passed.Balise (Heard.Words 0x17 0x8E 0x5A);
-      answer = record { ride = joins_step.ride; closed = no_group; report = Report.Lines Lines.None };
+      answer = record { ride = joins_step.ride; closed = no_group; report = Ok Lines.None };
     }
 
 opens_met : NoneOpen opens_step

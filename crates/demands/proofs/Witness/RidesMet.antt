@@ -6,6 +6,7 @@ use Prim.Native.Nat.{ℕ}
 use native.Mathlib.Omega.{arith}
 use mathlib.Core.Path.{refl}
 use mathlib.Core.List.{List, [], ◌∷◌}
+use Rattle.std.specs.Prelude.{Ok, Err}
 use Rattle.words.specs.Bits.{word}
 use Rattle.words.specs.Plain.{is_check, covers, count, even, is_code, onwards, figure}
 use Rattle.words.specs.Code.{other, exchanged, read_word}
@@ -22,7 +23,7 @@ use Rattle.group.specs.declared.Content.{Content}
 use Rattle.group_rows.specs.declared.Direction.{Direction}
 use Rattle.group.specs.declared.Group.{Group}
 use Rattle.group.specs.declared.Heard.{Heard}
-use Rattle.group.specs.declared.GroupJudged.{GroupJudged}
+use Rattle.group.specs.declared.GroupRefused.{GroupRefused}
 use Rattle.group_rows.specs.declared.Kind.{Kind}
 use Rattle.group.specs.declared.Message.{Message}
 use Rattle.group.specs.declared.Number.{Number}
@@ -38,7 +39,7 @@ use Rattle.ride.specs.declared.Lines.{Lines}
 use Rattle.ride.specs.declared.Linking.{Linking}
 use Rattle.ride.specs.declared.Mark.{Mark}
 use Rattle.ride.specs.declared.Passed.{Passed}
-use Rattle.ride.specs.declared.Report.{Report}
+use Rattle.std.specs.Prelude.{Ok}
 use Rattle.ride.specs.declared.Ride.{Ride}
 use Rattle.demands.specs.Table.{bad_gap}
 use Rattle.demands.specs.ByContract.{JudgeGroup}
@@ -72,7 +73,7 @@ missed_step =
           record {
             ride = record { odometer = 5801; group = no_group; known = record { linking = Linking.Unset; main = Told.Kmh 130; target = Told.Kmh 80; number = Number.None } };
             closed = no_group;
-            report = Report.Lines (Lines.One (Line.Missed 5800));
+            report = Ok (Lines.One (Line.Missed 5800));
           };
     }
 
@@ -103,11 +104,11 @@ alone_step =
           record {
             ride = record { odometer = 5801; group = no_group; known = nothing_known };
             closed = alone;
-            report = Report.Lines (Lines.One (Line.Fault 1000 10));
+            report = Ok (Lines.One (Line.Fault 1000 10));
           };
     }
 
-alone_met : LeavesBehind alone_step × JudgeGroup alone GroupJudged.One
+alone_met : LeavesBehind alone_step × JudgeGroup alone (Err GroupRefused.One)
 unfolding odometer_of passed_of in_order_meant check_record no_group nothing_known close close_behind missed_lines after_missed go_on treat step take_up judge bad_gap
 alone_met = (
   record {
@@ -138,7 +139,7 @@ joins_step =
       bytes = second;
       odometer = 1030;
       passed = Passed.Balise (Heard.Words 0x99 0x2B 0x4D);
-      answer = record { ride = record { odometer = 1030; group = its_group; known = nothing_known }; closed = no_group; report = Report.Lines Lines.None };
+      answer = record { ride = record { odometer = 1030; group = its_group; known = nothing_known }; closed = no_group; report = Ok Lines.None };
     }
 
 pub joins_met : StaysOpen joins_step
@@ -191,6 +192,6 @@ backwards =
 abbrev its_other : Message
 its_other = record { direction = Direction.Opposite; kind = Kind.Signal; place = 1030; ay = 8; az = 5; number = Number.None; content = Content.Nothing }
 
-other_met : JudgeGroup backwards (GroupJudged.Accepted its_other) × IsMarked Linking.Unset its_other Mark.Unmarked
+other_met : JudgeGroup backwards (Ok its_other) × IsMarked Linking.Unset its_other Mark.Unmarked
 unfolding read_word is_code even count covers figure onwards is_check exchanged other word short_word long_word telegram balises read_all fits first fit_row_meant fit_rows how_many fit_in fitting distance signal_speed target_figure route_speed distance_of signal_distance number_of judge_read judge odometer_of passed_of in_order_meant check_record no_group nothing_known fresh_ride join take_up mark_at close leave close_behind missed_lines after_missed go_on treat step bad_gap end
 other_met = (((backwards, tt), refl), unmarked (λ s. let e = s.0 in cannot_be cc))

@@ -13,14 +13,13 @@ use borrow.Author.Tests.{not-false}
 use Rattle.telegram.specs.Sync.{differing, is_good, good_pair}
 use Rattle.settings.specs.declared.Begun.{Begun}
 use Rattle.settings.specs.declared.Store.{Store}
-use Rattle.settings.specs.declared.Verdict.{Verdict}
+use Rattle.std.specs.Prelude.{Ok}
 use Rattle.settings.specs.Versions.{settings_of, follows}
 use Rattle.settings.specs.Store.{no_store_meant, versions_of, first_of, opened, begin, with_one, all_follow, in_order_meant, judged}
 use Rattle.settings.specs.At.{held_from, held_at, gap_at}
 use Rattle.ride.specs.declared.Ran.{Ran}
 use Rattle.ride.specs.declared.Ride.{Ride}
 use Rattle.ride.specs.State.{fresh_ride}
-use Rattle.ride.specs.declared.Way.{Way}
 use Rattle.ride.specs.Over.{records, ride_over}
 use Rattle.ride.proofs.Under.{run_through}
 use Rattle.ride_text.specs.Style.{plain}
@@ -39,7 +38,7 @@ use Rattle.demands.proofs.Witness.SectionsMet.{first_card, second_card, whole_me
 
 module _ (store : Store) (ride : Ride) (card : List ℕ) (good : Good store) (whole : Whole card) where
   abbrev pub under_ran : Ran
-  under_ran = record { ride = (ride_over (gap_at store) ride 1 (records card)).ride; way = Way.Through }
+  under_ran = record { ride = (ride_over (gap_at store) ride 1 (records card)).ride; way = Ok tt }
 
   pub ran_met : RunOver ride store card under_ran
   unfolding bad_length
@@ -54,7 +53,7 @@ module _ (store : Store) (ride : Ride) (card : List ℕ) (good : Good store) (wh
 -- ---- one version, and two
 
 abbrev one : Begun
-one = record { store = opened (first_of 40 0x01 0x7E); verdict = Verdict.Kept }
+one = record { store = opened (first_of 40 0x01 0x7E); verdict = Ok tt }
 
 opened_met : (not_seven 0x01 0x7E ≡ false) × BeginStore 40 0x01 0x7E one
 unfolding not_seven begin settings_of good_pair is_good differing

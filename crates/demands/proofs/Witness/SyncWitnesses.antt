@@ -13,6 +13,7 @@ use Rattle.words.specs.Plain.{is_check, covers, count, even, is_code, onwards, f
 use Rattle.words.specs.Code.{other, exchanged, read_word}
 use Rattle.words.proofs.Ranges.{below}
 use Rattle.words.proofs.Told.{told}
+use Rattle.std.specs.Prelude.{Result, Ok, Err}
 use Rattle.telegram.specs.Stretch.{bits_at, inside}
 use Rattle.telegram.specs.Sync.{differing, is_good}
 use Rattle.telegram.specs.Telegram.{short_word, long_word, telegram}
@@ -20,6 +21,7 @@ use Rattle.telegram.specs.Place.{are_syncs, words_at, is_place, from, those, pla
 use Rattle.telegram.specs.Says.{says_found}
 use Rattle.telegram.specs.declared.Telegram.{Telegram}
 use Rattle.telegram.specs.declared.Found.{Found}
+use Rattle.telegram.specs.declared.NotFound.{NotFound}
 use Rattle.telegram.specs.Survey.{same_words, all_as, survey}
 use Rattle.contact.specs.Judge.{ones_at_end, all_zero, is_marker, judgement, judge}
 use Rattle.contact.specs.Says.{says_judged}
@@ -81,10 +83,10 @@ unfolding sync_flips flips sum flip in_stretch unequal received_bit sent_bit
 noisy_not_quiet h = let f : ◌≡◌ {A = ℕ} 2 0 = h.syncs 2 in omega arith
 
 -- The two unflipped telegrams are handed out,
-abbrev one : ℕ → Found
-one p = Found.At p (Telegram.Figures 1 8 5)
+abbrev one : ℕ → Result Found NotFound
+one p = Ok (record { place = p; telegram = Telegram.Figures 1 8 5 })
 
-noisy_comes : (w : List Found) → ComesOf noisy w → w ≡ one 80 ∷ one 112 ∷ []
+noisy_comes : (w : List (Result Found NotFound)) → ComesOf noisy w → w ≡ one 80 ∷ one 112 ∷ []
 unfolding places those from is_place are_syncs words_at bits_at telegram short_word long_word read_word is_code even count covers exchanged other word figure onwards is_check
 noisy_comes w c = comes_is noisy noisy_proper w c
 
@@ -97,7 +99,7 @@ second_call : Find noisy.buffer 81 79 0x35 0xda (one 112)
 unfolding find is_good differing inside places those from is_place are_syncs words_at bits_at telegram short_word long_word read_word is_code even count covers exchanged other word figure onwards is_check
 second_call = (([], tt), lent noisy.buffer, (lent noisy.buffer, (81, (79, (0x35, (0xda, tt))))), refl, refl)
 
-third_call : Find noisy.buffer 113 47 0x35 0xda Found.NoPlace
+third_call : Find noisy.buffer 113 47 0x35 0xda (Err NotFound.NoPlace)
 unfolding find is_good differing inside places those from is_place are_syncs words_at bits_at telegram short_word long_word read_word is_code even count covers exchanged other word figure onwards is_check
 third_call = (([], tt), lent noisy.buffer, (lent noisy.buffer, (113, (47, (0x35, (0xda, tt))))), refl, refl)
 
@@ -141,6 +143,6 @@ true_windows p sent =
     leb→le (flips_at between p) 2 (subst (λ (t : Bool). T (pick t (leb (flips_at between p) 2) true)) sent (below true_at 33 tt p (omega arith)))
 
 -- but the forty from bit 1 on hold three, and there, where none was sent, a telegram is found.
-between_false : (flips_at between 1 ≡ 3) × (sent_at between 1 ≡ false) × (find between.buffer 0 72 0xc0 0x1f ≡ says_found (Found.At 1 (Telegram.Figures 0 0 0)))
+between_false : (flips_at between 1 ≡ 3) × (sent_at between 1 ≡ false) × (find between.buffer 0 72 0xc0 0x1f ≡ says_found (Ok (record { place = 1; telegram = Telegram.Figures 0 0 0 })))
 unfolding sent_at flips_at line_bit flips sum flip in_stretch unequal received_bit sent_bit find is_good differing inside places those from is_place are_syncs words_at bits_at telegram short_word long_word read_word is_code even count covers exchanged other word figure onwards is_check
 between_false = (refl, refl, refl)

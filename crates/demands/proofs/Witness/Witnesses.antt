@@ -8,6 +8,7 @@ use native.Mathlib.Omega.{arith}
 use Rattle.words.specs.Bits.{word}
 use Rattle.words.specs.Plain.{is_check, covers, count, even, is_code, onwards, figure}
 use Rattle.words.specs.Code.{other, exchanged, read_word}
+use Rattle.std.specs.Prelude.{Result, Ok}
 use Rattle.telegram.specs.Stretch.{bits_at, inside}
 use Rattle.telegram.specs.Sync.{differing, is_good}
 use Rattle.telegram.specs.Telegram.{short_word, long_word, telegram}
@@ -15,8 +16,10 @@ use Rattle.telegram.specs.Place.{are_syncs, words_at, is_place, from, those, pla
 use Rattle.telegram.specs.Says.{says_found, says_surveyed}
 use Rattle.telegram.specs.declared.Telegram.{Telegram}
 use Rattle.telegram.specs.declared.Found.{Found}
-use Rattle.telegram.specs.Survey.{same_words, all_as, survey}
+use Rattle.telegram.specs.declared.NotFound.{NotFound}
 use Rattle.telegram.specs.declared.Surveyed.{Surveyed}
+use Rattle.telegram.specs.declared.NotAlike.{NotAlike}
+use Rattle.telegram.specs.Survey.{same_words, all_as, survey}
 use Rattle.telegram.proofs.Determined.{found_of, found_back, surveyed_of, surveyed_back}
 use Rattle.contact.specs.Judge.{ones_at_end, all_zero, is_marker, judgement, judge}
 use Rattle.contact.specs.Says.{says_judged}
@@ -53,8 +56,8 @@ unfolding is_good differing inside telegram short_word read_word is_code even co
 line_proper x = record { bytes = (omega arith, omega arith, omega arith, omega arith, omega arith); pair = refl; valid = refl; taken = refl }
 
 -- The telegram sent, at a place.
-abbrev pub one : ℕ → Found
-one p = Found.At p (Telegram.Figures 1 8 5)
+abbrev pub one : ℕ → Result Found NotFound
+one p = Ok (record { place = p; telegram = Telegram.Figures 1 8 5 })
 
 -- ---- nothing flips
 
@@ -64,7 +67,7 @@ unfolding unflipped flip in_stretch unequal received_bit sent_bit
 clean_met = clean (line 0x17) 144 (omega arith) tt
 
 -- and all three telegrams are handed out.
-clean_comes : (w : List Found) → ComesOf (line 0x17) w → w ≡ one 16 ∷ one 48 ∷ one 80 ∷ []
+clean_comes : (w : List (Result Found NotFound)) → ComesOf (line 0x17) w → w ≡ one 16 ∷ one 48 ∷ one 80 ∷ []
 unfolding places those from is_place are_syncs words_at bits_at telegram short_word long_word read_word is_code even count covers exchanged other word figure onwards is_check
 clean_comes w c = comes_is (line 0x17) (line_proper 0x17) w c
 
@@ -76,7 +79,7 @@ unfolding quiet_at sync_flips data_flips flips sum flip in_stretch unequal recei
 three_flips_few = few_flips (line 0x10) 5 (omega arith) tt
 
 -- the two telegrams after the flipped one are handed out,
-three_flips_comes : (w : List Found) → ComesOf (line 0x10) w → w ≡ one 48 ∷ one 80 ∷ []
+three_flips_comes : (w : List (Result Found NotFound)) → ComesOf (line 0x10) w → w ≡ one 48 ∷ one 80 ∷ []
 unfolding places those from is_place are_syncs words_at bits_at telegram short_word long_word read_word is_code even count covers exchanged other word figure onwards is_check
 three_flips_comes w c = comes_is (line 0x10) (line_proper 0x10) w c
 
@@ -86,10 +89,10 @@ unfolding judge judgement is_marker ones_at_end all_zero survey all_as same_word
 three_flips_judged r c =
     told says_judged judged_of judged_back r (Judged.Read (Telegram.Figures 1 8 5) 48 2) (c.4 ∙ ap (λ (v : List ℕ). judge v 0 128 0x72 0x0d) c.3) refl
 
-three_flips_surveyed : (r : Surveyed) → Survey (line 0x10).buffer 0 128 0x72 0x0d r → r ≡ Surveyed.Alike (Telegram.Figures 1 8 5) 48 2
+three_flips_surveyed : (r : Result Surveyed NotAlike) → Survey (line 0x10).buffer 0 128 0x72 0x0d r → r ≡ Ok (record { telegram = Telegram.Figures 1 8 5; first = 48; count = 2 })
 unfolding survey all_as same_words is_good differing inside places those from is_place are_syncs words_at bits_at telegram short_word long_word read_word is_code even count covers exchanged other word figure onwards is_check
 three_flips_surveyed r c =
-    told says_surveyed surveyed_of surveyed_back r (Surveyed.Alike (Telegram.Figures 1 8 5) 48 2) (c.4 ∙ ap (λ (v : List ℕ). survey v 0 128 0x72 0x0d) c.3) refl
+    told says_surveyed surveyed_of surveyed_back r (Ok (record { telegram = Telegram.Figures 1 8 5; first = 48; count = 2 })) (c.4 ∙ ap (λ (v : List ℕ). survey v 0 128 0x72 0x0d) c.3) refl
 
 -- ---- four flips in X, 99 for 17 hex, which make a nine of the one
 
@@ -99,6 +102,6 @@ unfolding data_flips flips sum flip in_stretch unequal received_bit sent_bit
 four_flips_not_few h = let f : 4 ≤ 3 = h.few 1 in omega arith
 
 -- And what was not sent is handed out, at a true place.
-four_flips_found : (r : Found) → Find (line 0x99).buffer 0 128 0x72 0x0d r → r ≡ Found.At 16 (Telegram.Figures 9 8 5)
+four_flips_found : (r : Result Found NotFound) → Find (line 0x99).buffer 0 128 0x72 0x0d r → r ≡ Ok (record { place = 16; telegram = Telegram.Figures 9 8 5 })
 unfolding find is_good differing inside places those from is_place are_syncs words_at bits_at telegram short_word long_word read_word is_code even count covers exchanged other word figure onwards is_check
-four_flips_found r k = told says_found found_of found_back r (Found.At 16 (Telegram.Figures 9 8 5)) (sym (specified (line 0x99).buffer 0 128 0x72 0x0d r k)) refl
+four_flips_found r k = told says_found found_of found_back r (Ok (record { place = 16; telegram = Telegram.Figures 9 8 5 })) (sym (specified (line 0x99).buffer 0 128 0x72 0x0d r k)) refl

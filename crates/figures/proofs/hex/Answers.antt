@@ -3,7 +3,7 @@ use mathlib.Core.Path.{ap₂, ◌∙◌, subst}
 use Prim.Native.Nat.{ℕ, ◌+◌, ◌*◌, ◌≤◌, ◌<◌}
 use borrow.Author.Tests.{ne_eqb}
 use Rattle.figures.specs.Figures.{hex}
-use Rattle.figures.specs.declared.Byte.{Byte}
+use Rattle.std.specs.Prelude.{Some}
 use Rattle.figures.proofs.Characters.{no_high, no_low, two_digits}
 use Rattle.figures.proofs.hex.Goals as goal
 
@@ -25,6 +25,6 @@ returns-then-low-ge16 c =
 pub returns : goal.returns
 returns c =
     let t = c.args.text.now in
-    ap₂ (λ (h l : ℕ). Byte.Is (h * 16 + l)) c.hex_digit-high.ensures c.hex_digit-low.ensures
+    ap₂ (λ (h l : ℕ). Some (h * 16 + l)) c.hex_digit-high.ensures c.hex_digit-low.ensures
     ∙ two_digits t c.if-text-ne2.false (subst (λ (k : ℕ). k < 16) c.hex_digit-high.ensures c.if-high-ge16.false)
     (subst (λ (k : ℕ). k < 16) c.hex_digit-low.ensures c.if-low-ge16.false)

@@ -1,13 +1,13 @@
 -- The count is judged first, then the balises are read, then the rows decide.
 -- Assumes nothing.
 use mathlib.Core.Path.{◌≡◌, sym, ap, ◌∙◌}
-use mathlib.Core.Bool.{Bool}
 use borrow.Author.Tests.{eq-eqb, ne_eqb, lt-ltb, le-ltb}
 use lib.ListN.{take}
-use Rattle.words.specs.Answer.{gives, refuses, pick}
+use Rattle.words.specs.Answer.{gives, refuses}
 use Rattle.group.specs.Balise.{balises}
 use Rattle.group_reason.specs.Reason.{bad}
 use Rattle.group_reason.specs.Says.{says_bad_balise}
+use Rattle.group_reason.specs.Inside.{says_all_read}
 use Rattle.group_reason.specs.Explain.{read_from, explain}
 use Rattle.group_reason.proofs.explain.Goals as goal
 
@@ -21,24 +21,19 @@ returns-then-count-gt5 c =
     let n = c.args.group.count in
     rw (ne_eqb n 1 c.if-count-eq1.false, lt-ltb 5 n c.if-count-gt5.true)
 
-pub returns-then-all : goal.returns-then-all
+pub returns-in-Ok : goal.returns-in-Ok
 unfolding explain balises
-returns-then-all c =
+returns-in-Ok c =
     let g = c.args.group in
     let n = g.count in
-    let l = c.read_all-all.result in
-    let e : read_from 0 (take n g.kept) ≡ gives (take n l.parts) =
-    sym c.read_all-all.ensures
-    ∙ ap (λ (b : Bool). pick b (gives (take n l.parts)) (refuses (bad l.balise l.place (says_bad_balise l.bad)))) c.if-all.true in
+    let e : read_from 0 (take n g.kept) ≡ gives (take n c.in-Ok.parts) = sym c.read_all.ensures ∙ ap (says_all_read n) c.in-Ok.is in
     c.why_fit.ensures ∙ sym (rw (ne_eqb n 1 c.if-count-eq1.false, le-ltb 5 n c.if-count-gt5.false, e))
 
-pub returns-else-all : goal.returns-else-all
+pub returns-in-Err : goal.returns-in-Err
 unfolding explain balises
-returns-else-all c =
+returns-in-Err c =
     let g = c.args.group in
     let n = g.count in
-    let l = c.read_all-all.result in
-    let e : read_from 0 (take n g.kept) ≡ refuses (bad l.balise l.place (says_bad_balise l.bad)) =
-    sym c.read_all-all.ensures
-    ∙ ap (λ (b : Bool). pick b (gives (take n l.parts)) (refuses (bad l.balise l.place (says_bad_balise l.bad)))) c.if-all.false in
+    let u = c.in-Err.unread in
+    let e : read_from 0 (take n g.kept) ≡ refuses (bad u.balise u.place (says_bad_balise u.bad)) = sym c.read_all.ensures ∙ ap (says_all_read n) c.in-Err.is in
     rw (ne_eqb n 1 c.if-count-eq1.false, le-ltb 5 n c.if-count-gt5.false, e)

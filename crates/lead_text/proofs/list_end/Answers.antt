@@ -8,15 +8,15 @@ use Rattle.lead_text.proofs.list_end.Goals as goal
 
 pub over-requires : goal.over-requires
 over-requires c =
-    (held_given c.args.store 0 _ (sym c.at.ensures ∙ ap says_asked c.in-InForce.is)).0
+    (held_given c.args.store 0 _ (sym c.at.ensures ∙ ap says_asked c.in-Ok.is)).0
 
-pub returns-in-Refused : goal.returns-in-Refused
-returns-in-Refused c =
+pub returns-in-Err : goal.returns-in-Err
+returns-in-Err c =
     let a = c.args in
-    end_refused a.underway a.store a.out.now _ (store_refused a.store _ (sym c.at.ensures ∙ ap says_asked c.in-Refused.is))
+    end_refused a.underway a.store a.out.now _ (store_refused a.store _ (sym c.at.ensures ∙ ap says_asked c.in-Err.is))
 
-pub returns-in-InForce : goal.returns-in-InForce
-returns-in-InForce c =
+pub returns-in-Ok : goal.returns-in-Ok
+returns-in-Ok c =
     let a = c.args in
-    let held = held_given a.store 0 _ (sym c.at.ensures ∙ ap says_asked c.in-InForce.is) in
+    let held = held_given a.store 0 _ (sym c.at.ensures ∙ ap says_asked c.in-Ok.is) in
     c.over.ensures ∙ end_listed a.underway a.store a.out.now held.0

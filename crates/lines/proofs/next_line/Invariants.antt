@@ -1,7 +1,7 @@
 -- What the loop keeps true.
 use mathlib.Core.Path.{◌≡◌}
 use mathlib.Core.Bool.{Bool}
-use Prim.Native.Nat.{◌-◌}
+use Prim.Native.Nat.{◌≤◌, max}
 use lib.ListN.{length, drop}
 use Rattle.lines.specs.declared.TextLine.{TextLine}
 use Rattle.lines.specs.declared.Letters.{Letters}
@@ -14,7 +14,5 @@ reader line word comment = record { line = line; word = word; comment = comment 
 
 abbrev pub invariant-loop-i : goal.invariant-loop-i
 invariant-loop-i l =
-    next_line (reader l.initial.line l.initial.word l.initial.comment) l.text l.initial.i ≡ line_from (reader l.line l.word l.comment) (drop l.i l.text) l.i
-
-abbrev pub decreases-loop-i : goal.decreases-loop-i
-decreases-loop-i l = length l.text - l.i
+    (next_line (reader l.initial.line l.initial.word l.initial.comment) l.text l.from ≡ line_from (reader l.line l.word l.comment) (drop l.i l.text) l.i)
+    × (l.i ≤ max l.from (length l.text))

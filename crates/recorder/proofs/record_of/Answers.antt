@@ -1,41 +1,24 @@
 -- `record_of` asks what is kept, then the odometer.
+-- Assumes nothing.
 use Prim.Native.Nat.{ℕ}
 use mathlib.Core.Path.{sym, ap, ◌∙◌}
+use mathlib.Core.List.{List}
+use Rattle.std.proofs.lemmas.Result.{err_from_is_err_and}
 use Rattle.words.specs.Answer.{Outcome, then}
-use Rattle.recorder.specs.Record.{Content, at_odometer, record_of_meant, Recording, recording}
+use Rattle.recorder.specs.Record.{Content, at_odometer, record_of_meant}
 use Rattle.recorder.specs.Says.{says_kept}
 use Rattle.recorder.proofs.record_of.Goals as goal
 
 -- what is kept, k, comes to at this odometer
-abbrev after : ℕ → Outcome Content → Recording
-after odometer k = recording (then k (at_odometer odometer))
+abbrev after : ℕ → Outcome Content → Outcome (List ℕ)
+after odometer k = then k (at_odometer odometer)
 
-pub returns-in-Is : goal.returns-in-Is
+pub returns-in_err-kept : goal.returns-in_err-kept
 unfolding record_of_meant
-returns-in-Is c =
-    let a = c.args in
-    c.made_at.ensures ∙ ap (after a.odometer) (sym (ap says_kept c.in-Is.is) ∙ c.content_of-kept.ensures)
+returns-in_err-kept c =
+    let p = err_from_is_err_and c.from_residual.result c.from_residual.ensures.1 in
+    rw (p.1, p.2) (ap (after c.args.odometer) (sym (ap says_kept c.in_err-kept.was) ∙ c.content_of.ensures))
 
-pub returns-in-TooLarge : goal.returns-in-TooLarge
+pub returns : goal.returns
 unfolding record_of_meant
-returns-in-TooLarge c =
-    let a = c.args in
-    c.refused.ensures ∙ ap (after a.odometer) (sym (ap says_kept c.in-TooLarge.is) ∙ c.content_of-kept.ensures)
-
-pub returns-in-Fifteen : goal.returns-in-Fifteen
-unfolding record_of_meant
-returns-in-Fifteen c =
-    let a = c.args in
-    c.refused-in-Fifteen.ensures ∙ ap (after a.odometer) (sym (ap says_kept c.in-Fifteen.is) ∙ c.content_of-kept.ensures)
-
-pub returns-in-NotSeven : goal.returns-in-NotSeven
-unfolding record_of_meant
-returns-in-NotSeven c =
-    let a = c.args in
-    c.refused-in-NotSeven.ensures ∙ ap (after a.odometer) (sym (ap says_kept c.in-NotSeven.is) ∙ c.content_of-kept.ensures)
-
-pub returns-in-Beyond : goal.returns-in-Beyond
-unfolding record_of_meant
-returns-in-Beyond c =
-    let a = c.args in
-    c.refused-in-Beyond.ensures ∙ ap (after a.odometer) (sym (ap says_kept c.in-Beyond.is) ∙ c.content_of-kept.ensures)
+returns c = c.made_at.ensures ∙ ap (after c.args.odometer) (sym (ap says_kept c.in_ok-kept.was) ∙ c.content_of.ensures)

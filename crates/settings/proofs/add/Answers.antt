@@ -7,16 +7,16 @@ use Rattle.settings.proofs.add.Goals as goal
 
 pub with_one-requires : goal.with_one-requires
 with_one-requires c =
-    room c.args.store _ (sym c.may_add-verdict.ensures ∙ ap says_verdict c.in-Kept.is)
+    room c.args.store _ (sym c.may_add-verdict.ensures ∙ ap says_verdict c.in-Ok.is)
 
-pub returns-in-Kept : goal.returns-in-Kept
+pub returns-in-Ok : goal.returns-in-Ok
 unfolding add
-returns-in-Kept c =
-    let may = sym c.may_add-verdict.ensures ∙ ap says_verdict c.in-Kept.is in
+returns-in-Ok c =
+    let may = sym c.may_add-verdict.ensures ∙ ap says_verdict c.in-Ok.is in
     rw (may, c.with_one.ensures)
 
-pub returns-in-Refused : goal.returns-in-Refused
+pub returns-in-Err : goal.returns-in-Err
 unfolding add
-returns-in-Refused c =
-    let may = sym c.may_add-verdict.ensures ∙ ap says_verdict c.in-Refused.is in
+returns-in-Err c =
+    let may = sym c.may_add-verdict.ensures ∙ ap says_verdict c.in-Err.is in
     rw may

@@ -21,10 +21,10 @@ returns-then-words-figure c =
     sym (listed_reads x c.args.word (omega (arith, c.loop-figure-test.true)) here)
 
 pub loop-figure-preserved : goal.loop-figure-preserved
-loop-figure-preserved c = (search rules, below_more _ _ c.loop-figure.invariant.1 c.if-words-figure.false)
+loop-figure-preserved c = below_more _ _ c.loop-figure.invariant c.if-words-figure.false
 
 pub returns : goal.returns
 returns c =
     let none : (x : ℕ) → x < 2048 → get_or list x 0 ≡ c.args.word → ⊥ =
-    λ x l e. c.loop-figure.invariant.1 x (omega (arith, c.loop-figure-test.false)) (ap (λ (l : List ℕ). get_or l x 0) c.list-words.ensures ∙ e) in
+    λ x l e. c.loop-figure.invariant x (omega (arith, c.loop-figure-test.false)) (ap (λ (l : List ℕ). get_or l x 0) c.list-words.ensures ∙ e) in
     refused 16 c.args.word false (sym (not_listed c.args.word (search rules) none)) c.parity.result c.parity.ensures refl

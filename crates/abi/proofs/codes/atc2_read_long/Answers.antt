@@ -6,7 +6,7 @@ use lib.IntN.{ℤ}
 use borrow.Author.Rules.{rules}
 use Rattle.words.specs.Answer.{Answer}
 use Rattle.words.specs.Why.{Why, numbered}
-use Rattle.words.specs.Says.{says_long_read}
+use Rattle.words.specs.Says.{says_read}
 use Rattle.abi.specs.Face.{returned, itself}
 use Rattle.abi.proofs.Carried.{carried, as_i32}
 use Rattle.abi.proofs.codes.atc2_read_long.Goals as goal
@@ -15,8 +15,8 @@ use Rattle.abi.proofs.codes.atc2_read_long.Goals as goal
 abbrev face : Answer Why ℕ → ℤ
 face o = returned itself (numbered o)
 
-pub returns-in-Figure : goal.returns-in-Figure
-returns-in-Figure c = as_i32 (search rules) ∙ carried face says_long_read c.in-Figure.is c.read_long.ensures
+pub returns-in-Ok : goal.returns-in-Ok
+returns-in-Ok c = as_i32 (search rules) ∙ carried face says_read c.in-Ok.is c.read_long.ensures
 
-pub returns-in-NotCode : goal.returns-in-NotCode
-returns-in-NotCode c = carried face says_long_read c.in-NotCode.is c.read_long.ensures
+pub returns-in-Err : goal.returns-in-Err
+returns-in-Err c = carried face says_read c.in-Err.is c.read_long.ensures

@@ -6,12 +6,12 @@ use Rattle.abi.specs.Contacts.{begun_number, begun_put}
 use Rattle.abi.proofs.Carried.{faced}
 use Rattle.abi.proofs.contacts.atc2_begin.Goals as goal
 
-pub returns-in-Search : goal.returns-in-Search
-returns-in-Search c =
-    let both = faced says_search_begun begun_number begun_put c.args.search.now c.in-Search.is c.begin.ensures in
+pub returns-in-Ok : goal.returns-in-Ok
+returns-in-Ok c =
+    let both = faced says_search_begun begun_number begun_put c.args.search.now c.in-Ok.is c.begin.ensures in
     record { value = both.0; search_after = both.1 }
 
-pub returns-in-Beyond : goal.returns-in-Beyond
-returns-in-Beyond c =
-    let both = faced says_search_begun begun_number begun_put c.args.search.now c.in-Beyond.is c.begin.ensures in
+pub returns-in-Err : goal.returns-in-Err
+returns-in-Err c =
+    let both = faced says_search_begun begun_number begun_put c.args.search.now c.in-Err.is c.begin.ensures in
     record { value = both.0; search_after = both.1 }

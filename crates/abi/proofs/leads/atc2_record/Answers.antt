@@ -26,19 +26,19 @@ overflow_mul-out c =
     let small : c.hear-wrote.result.frames * 16 < 2 ^ 64 = omega arith in
     search rules
 
-pub returns-in-Refused : goal.returns-in-Refused
-returns-in-Refused c =
+pub returns-in-Err : goal.returns-in-Err
+returns-in-Err c =
     let a = c.args in
-    let both = unheard a.ear.now a.store.now a.lead.now a.records.now a.out.now c.store_in-held.result (says_bad c.in-Refused.bad) _ c.store_in-held.ensures
-    (refused_with c.store_in-held.result c.at.result c.in-Refused.bad c.in-Refused.is c.at.ensures)
-    (back c.of_settings.result (says_bad c.in-Refused.bad) c.of_settings.ensures.0 c.of_settings.ensures.1) in
+    let both = unheard a.ear.now a.store.now a.lead.now a.records.now a.out.now c.store_in-held.result (says_bad c.in-Err.bad) _ c.store_in-held.ensures
+    (refused_with c.store_in-held.result c.at.result c.in-Err.bad c.in-Err.is c.at.ensures)
+    (back c.of_settings.result (says_bad c.in-Err.bad) c.of_settings.ensures.0 c.of_settings.ensures.1) in
     record { value = both.0; ear_after = both.1.0; records_after = both.1.1.0; out_after = both.1.1.1.0; ear_after_2 = both.1.1.1.1 }
 
-pub returns-in-InForce : goal.returns-in-InForce
-returns-in-InForce c =
+pub returns-in-Ok : goal.returns-in-Ok
+returns-in-Ok c =
     let a = c.args in
     let both = was_heard a.ear.now a.store.now a.lead.now a.records.now a.out.now c.store_in-held.result c.ear_in-from.result c.hear-wrote.result
     c.hear-wrote.new.buffer c.ear_bytes-bytes.result c.store_in-held.ensures
-    (in_force_law c.store_in-held.result c.at.result _ c.in-InForce.is c.at.ensures).0 c.ear_in-from.ensures c.hear-wrote.ensures
+    (in_force_law c.store_in-held.result c.at.result _ c.in-Ok.is c.at.ensures).0 c.ear_in-from.ensures c.hear-wrote.ensures
     c.ear_bytes-bytes.ensures.value c.ear_bytes-bytes.ensures.result_value in
     record { value = both.0; ear_after = both.1.0; records_after = both.1.1.0; out_after = both.1.1.1.0; ear_after_2 = both.1.1.1.1 }

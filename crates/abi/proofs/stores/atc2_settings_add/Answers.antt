@@ -28,20 +28,20 @@ came w =
 change : After-add-added → Change
 change w = add (store_in w.args.store.now) (version (goal.at-After-add-added w).Start)
 
-pub returns-in-Kept : goal.returns-in-Kept
+pub returns-in-Ok : goal.returns-in-Ok
 unfolding version change
-returns-in-Kept c =
+returns-in-Ok c =
     let a = c.args in
-    let went : gives kept ≡ (change (goal.at-returns-in-Kept c).After-add-added).answer = ap says_verdict (sym c.in-Kept.is) ∙ ap (λ (x : Change). x.answer) (came (goal.at-returns-in-Kept c).After-add-added) in
-    let made : c.add-added.result.store ≡ (change (goal.at-returns-in-Kept c).After-add-added).store = ap (λ (x : Change). x.store) (came (goal.at-returns-in-Kept c).After-add-added) in
-    let both = stored (change (goal.at-returns-in-Kept c).After-add-added).answer (change (goal.at-returns-in-Kept c).After-add-added).store a.store.now c.add-added.result.store c.store_bytes-bytes.result went made
+    let went : gives kept ≡ (change (goal.at-returns-in-Ok c).After-add-added).answer = ap says_verdict (sym c.in-Ok.is) ∙ ap (λ (x : Change). x.answer) (came (goal.at-returns-in-Ok c).After-add-added) in
+    let made : c.add-added.result.store ≡ (change (goal.at-returns-in-Ok c).After-add-added).store = ap (λ (x : Change). x.store) (came (goal.at-returns-in-Ok c).After-add-added) in
+    let both = stored (change (goal.at-returns-in-Ok c).After-add-added).answer (change (goal.at-returns-in-Ok c).After-add-added).store a.store.now c.add-added.result.store c.store_bytes-bytes.result went made
     c.store_bytes-bytes.ensures.value c.store_bytes-bytes.ensures.result_value in
     record { value = both.0; store_after = both.1.0; store_after_2 = both.1.1 }
 
-pub returns-in-Refused : goal.returns-in-Refused
+pub returns-in-Err : goal.returns-in-Err
 unfolding version change
-returns-in-Refused c =
+returns-in-Err c =
     let a = c.args in
-    let went : refuses (says_bad c.in-Refused.bad) ≡ (change (goal.at-returns-in-Refused c).After-add-added).answer = ap says_verdict (sym c.in-Refused.is) ∙ ap (λ (x : Change). x.answer) (came (goal.at-returns-in-Refused c).After-add-added) in
-    let both = unstored (change (goal.at-returns-in-Refused c).After-add-added).answer (change (goal.at-returns-in-Refused c).After-add-added).store a.store.now (says_bad c.in-Refused.bad) _ went (back c.of_settings.result (says_bad c.in-Refused.bad) c.of_settings.ensures.0 c.of_settings.ensures.1) in
+    let went : refuses (says_bad c.in-Err.bad) ≡ (change (goal.at-returns-in-Err c).After-add-added).answer = ap says_verdict (sym c.in-Err.is) ∙ ap (λ (x : Change). x.answer) (came (goal.at-returns-in-Err c).After-add-added) in
+    let both = unstored (change (goal.at-returns-in-Err c).After-add-added).answer (change (goal.at-returns-in-Err c).After-add-added).store a.store.now (says_bad c.in-Err.bad) _ went (back c.of_settings.result (says_bad c.in-Err.bad) c.of_settings.ensures.0 c.of_settings.ensures.1) in
     record { value = both.0; store_after = both.1.0; store_after_2 = both.1.1 }

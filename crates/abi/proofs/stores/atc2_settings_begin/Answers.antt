@@ -15,20 +15,20 @@ use Rattle.abi.proofs.stores.atc2_settings_begin.Goals as goal
 came : (w : After-begin-begun) → says_begun w.begin-begun.result ≡ begin w.args.gap w.args.s w.args.t
 came w = w.begin-begun.ensures
 
-pub returns-in-Kept : goal.returns-in-Kept
-returns-in-Kept c =
+pub returns-in-Ok : goal.returns-in-Ok
+returns-in-Ok c =
     let a = c.args in
     let went : gives kept ≡ (begin a.gap a.s a.t).answer =
-    ap says_verdict (sym c.in-Kept.is) ∙ ap (λ (x : Change). x.answer) (came (goal.at-returns-in-Kept c).After-begin-begun) in
-    let made : c.begin-begun.result.store ≡ (begin a.gap a.s a.t).store = ap (λ (x : Change). x.store) (came (goal.at-returns-in-Kept c).After-begin-begun) in
+    ap says_verdict (sym c.in-Ok.is) ∙ ap (λ (x : Change). x.answer) (came (goal.at-returns-in-Ok c).After-begin-begun) in
+    let made : c.begin-begun.result.store ≡ (begin a.gap a.s a.t).store = ap (λ (x : Change). x.store) (came (goal.at-returns-in-Ok c).After-begin-begun) in
     let both = stored (begin a.gap a.s a.t).answer (begin a.gap a.s a.t).store a.store.now c.begin-begun.result.store c.store_bytes-bytes.result went made
     c.store_bytes-bytes.ensures.value c.store_bytes-bytes.ensures.result_value in
     record { value = both.0; store_after = both.1.0; store_after_2 = both.1.1 }
 
-pub returns-in-Refused : goal.returns-in-Refused
-returns-in-Refused c =
+pub returns-in-Err : goal.returns-in-Err
+returns-in-Err c =
     let a = c.args in
-    let went : refuses (says_bad c.in-Refused.bad) ≡ (begin a.gap a.s a.t).answer =
-    ap says_verdict (sym c.in-Refused.is) ∙ ap (λ (x : Change). x.answer) (came (goal.at-returns-in-Refused c).After-begin-begun) in
-    let both = unstored (begin a.gap a.s a.t).answer (begin a.gap a.s a.t).store a.store.now (says_bad c.in-Refused.bad) _ went (back c.of_settings.result (says_bad c.in-Refused.bad) c.of_settings.ensures.0 c.of_settings.ensures.1) in
+    let went : refuses (says_bad c.in-Err.bad) ≡ (begin a.gap a.s a.t).answer =
+    ap says_verdict (sym c.in-Err.is) ∙ ap (λ (x : Change). x.answer) (came (goal.at-returns-in-Err c).After-begin-begun) in
+    let both = unstored (begin a.gap a.s a.t).answer (begin a.gap a.s a.t).store a.store.now (says_bad c.in-Err.bad) _ went (back c.of_settings.result (says_bad c.in-Err.bad) c.of_settings.ensures.0 c.of_settings.ensures.1) in
     record { value = both.0; store_after = both.1.0; store_after_2 = both.1.1 }

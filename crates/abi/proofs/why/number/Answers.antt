@@ -1,23 +1,14 @@
--- Each case is the sum that `why_number` names; letters and parities are small, so it stays below
--- 1024.
+-- By what the three words read.
 -- Assumes nothing.
-use mathlib.Core.Path.{◌≡◌, sym, ap, ap₂, ◌∙◌}
-use Prim.Native.Nat.{ℕ, ◌+◌, ◌*◌}
-use native.Mathlib.Omega.{arith}
+use mathlib.Core.Path.{sym, ap, ◌∙◌}
+use Rattle.std.specs.Prelude.{Result}
 use Rattle.telegram.specs.Says.{says_telegram_read}
-use Rattle.telegram.specs.declared.TelegramRead.{TelegramRead}
+use Rattle.telegram.specs.declared.BadWord.{BadWord}
+use Rattle.telegram.specs.declared.Telegram.{Telegram}
 use Rattle.abi.specs.Face.{why_number}
 use Rattle.abi.proofs.why.number.Goals as goal
 
--- what an answer's number is, by the case that it is
-said : {r r' : TelegramRead} → r ≡ r' → why_number (says_telegram_read r') ≡ why_number (says_telegram_read r)
-said e = ap (λ (r : TelegramRead). why_number (says_telegram_read r)) (sym e)
-
-pub returns-in-NotCode : goal.returns-in-NotCode
-returns-in-NotCode c =
-    (ap₂ (λ (k o : ℕ). 1 + 16 * k + 256 * o) c.letter.ensures.0 c.ones.ensures.0 ∙ said c.in-NotCode.is, omega arith)
-
-pub returns-in-Fifteen : goal.returns-in-Fifteen
-returns-in-Fifteen c =
-    let none : (k : ℕ) → 3 + 16 * k ≡ 3 + 16 * k + 256 * 0 = λ k. omega arith in
-    (ap (λ (k : ℕ). 3 + 16 * k) c.letter-in-Fifteen.ensures.0 ∙ none _ ∙ said c.in-Fifteen.is, omega arith)
+pub returns-in-Err : goal.returns-in-Err
+returns-in-Err c =
+    let said = ap (λ (r : Result Telegram BadWord). why_number (says_telegram_read r)) (sym c.in-Err.is) in
+    (c.of_bad.ensures.0 ∙ said, c.of_bad.ensures.1)

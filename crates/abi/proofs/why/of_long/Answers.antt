@@ -3,17 +3,18 @@
 use mathlib.Core.Path.{◌≡◌, sym, ap, ◌∙◌}
 use Prim.Native.Nat.{ℕ, ◌+◌, ◌*◌}
 use native.Mathlib.Omega.{arith}
-use Rattle.words.specs.Says.{says_long_read}
-use Rattle.words.specs.declared.LongRead.{LongRead}
+use Rattle.words.specs.Says.{says_read}
+use Rattle.std.specs.Prelude.{Result}
+use Rattle.words.specs.declared.NotCode.{NotCode}
 use Rattle.abi.specs.Face.{word_number}
 use Rattle.abi.proofs.why.of_long.Goals as goal
 
 -- what an answer's number is, by the case that it is
-said : {r r' : LongRead} → r ≡ r' → word_number (says_long_read r') ≡ word_number (says_long_read r)
-said e = ap (λ (r : LongRead). word_number (says_long_read r)) (sym e)
+said : {r r' : Result ℕ NotCode} → r ≡ r' → word_number (says_read r') ≡ word_number (says_read r)
+said e = ap (λ (r : Result ℕ NotCode). word_number (says_read r)) (sym e)
 
-pub returns-in-Figure : goal.returns-in-Figure
-returns-in-Figure c = (said c.in-Figure.is, omega arith)
+pub returns-in-Ok : goal.returns-in-Ok
+returns-in-Ok c = (said c.in-Ok.is, omega arith)
 
-pub returns-in-NotCode : goal.returns-in-NotCode
-returns-in-NotCode c = (ap (λ (o : ℕ). 1 + 256 * o) c.ones.ensures.0 ∙ said c.in-NotCode.is, omega arith)
+pub returns-in-Err : goal.returns-in-Err
+returns-in-Err c = (ap (λ (o : ℕ). 1 + 256 * o) c.ones.ensures.0 ∙ said c.in-Err.is, omega arith)

@@ -14,23 +14,22 @@ pub loop-i-init : goal.loop-i-init
 loop-i-init c =
     let b = c.args.bytes.now in
     let all : length b / 8 ≡ length b / 8 - 0 = omega arith in
-    (omega arith, refl, ap (λ (n : ℕ). all_good (first_records n b)) all)
+    (refl, ap (λ (n : ℕ). all_good (first_records n b)) all)
 
 pub returns-then-not-is_good : goal.returns-then-not-is_good
 returns-then-not-is_good c =
     let b = c.args.bytes.now in
-    let e = c.loop-i.invariant.2 ∙ good_not b _ c.loop-i.i c.loop-i-test.true (sym c.is_good.ensures ∙ not-true _ c.if-not-is_good.true-raw) in
+    let e = c.loop-i.invariant.1 ∙ good_not b _ c.loop-i.i c.loop-i-test.true (sym c.is_good.ensures ∙ not-true _ c.if-not-is_good.true-raw) in
     sym e
 
 pub loop-i-preserved : goal.loop-i-preserved
 loop-i-preserved c =
     let b = c.args.bytes.now in (
-      omega arith,
-      c.loop-i.invariant.1,
-      c.loop-i.invariant.2 ∙ good_on b _ c.loop-i.i c.loop-i-test.true (sym c.is_good.ensures ∙ not-false _ c.if-not-is_good.false-raw),
+      c.loop-i.invariant.0,
+      c.loop-i.invariant.1 ∙ good_on b _ c.loop-i.i c.loop-i-test.true (sym c.is_good.ensures ∙ not-false _ c.if-not-is_good.false-raw),
     )
 
 pub returns : goal.returns
 returns c =
     let b = c.args.bytes.now in
-    sym (c.loop-i.invariant.2 ∙ good_end b _ c.loop-i.i c.loop-i-test.false)
+    sym (c.loop-i.invariant.1 ∙ good_end b _ c.loop-i.i c.loop-i-test.false)

@@ -1,5 +1,5 @@
 -- What the loop keeps true.
-use Prim.Native.Nat.{◌-◌, ◌/◌, ◌≤◌}
+use Prim.Native.Nat.{◌/◌}
 use mathlib.Core.Path.{◌≡◌}
 use lib.ListN.{length}
 use Rattle.ride.specs.Over.{records}
@@ -8,7 +8,4 @@ use Rattle.acceptance.proofs.Filling.{good_from}
 use Rattle.acceptance.proofs.reading.all_good.Given as goal
 
 abbrev pub invariant-loop-i : goal.invariant-loop-i
-invariant-loop-i l = (l.i ≤ l.count) × (l.count ≡ length l.bytes / 8) × (all_good (records l.bytes) ≡ good_from l.bytes l.count l.i)
-
-abbrev pub decreases-loop-i : goal.decreases-loop-i
-decreases-loop-i l = l.count - l.i
+invariant-loop-i l = (l.count ≡ length l.bytes / 8) × (all_good (records l.bytes) ≡ good_from l.bytes l.count l.i)

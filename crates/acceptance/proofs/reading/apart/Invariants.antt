@@ -1,12 +1,9 @@
 -- What the loop keeps true.
-use Prim.Native.Nat.{◌+◌, ◌-◌, ◌≤◌}
+use Prim.Native.Nat.{◌-◌}
 use mathlib.Core.Path.{◌≡◌}
 use lib.ListN.{take, drop}
 use Rattle.acceptance.specs.Plan.{apart}
 use Rattle.acceptance.proofs.reading.apart.Given as goal
 
 abbrev pub invariant-loop-i : goal.invariant-loop-i
-invariant-loop-i l = (1 ≤ l.i) × (l.i ≤ l.n + 1) × (apart l.tolerance (take l.n l.entries) ≡ apart l.tolerance (drop (l.i - 1) (take l.n l.entries)))
-
-abbrev pub decreases-loop-i : goal.decreases-loop-i
-decreases-loop-i l = l.n - l.i
+invariant-loop-i l = apart l.tolerance (take l.n l.entries) ≡ apart l.tolerance (drop (l.i - 1) (take l.n l.entries))

@@ -12,21 +12,20 @@ use Rattle.acceptance.proofs.reading.entries.Goals as goal
 
 pub loop-i-init : goal.loop-i-init
 unfolding first_records
-loop-i-init c = (omega arith, refl, ap length c.no_entries-entries.ensures, c.no_entries-entries.ensures)
+loop-i-init c = (refl, ap length c.no_entries-entries.ensures, c.no_entries-entries.ensures)
 
 pub loop-i-preserved : goal.loop-i-preserved
 loop-i-preserved c =
     let b = c.args.bytes.now in
     let i = c.loop-i.i in
     let room : i < 64 = omega (arith, c.requires) in (
-      omega arith,
-      c.loop-i.invariant.1,
-      simp length-set c.loop-i.invariant.2,
-      ap (λ (es : List Entry). set es i c.entry_at.result) c.loop-i.invariant.3 ∙ ap (set (filled b i) i) c.entry_at.ensures ∙ fill_next b i room,
+      c.loop-i.invariant.0,
+      simp length-set c.loop-i.invariant.1,
+      ap (λ (es : List Entry). set es i c.entry_at.result) c.loop-i.invariant.2 ∙ ap (set (filled b i) i) c.entry_at.ensures ∙ fill_next b i room,
     )
 
 pub returns : goal.returns
 returns c =
     let b = c.args.bytes.now in
     let last : c.loop-i.i ≡ length b / 8 = omega arith in
-    c.loop-i.invariant.3 ∙ ap (filled b) last ∙ fill_end b
+    c.loop-i.invariant.2 ∙ ap (filled b) last ∙ fill_end b

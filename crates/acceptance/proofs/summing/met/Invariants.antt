@@ -6,7 +6,4 @@ use Rattle.acceptance.specs.Report.{met_in}
 use Rattle.acceptance.proofs.summing.met.Given as goal
 
 abbrev pub invariant-loop-i : goal.invariant-loop-i
-invariant-loop-i l = (l.i ≤ l.n) × (l.count ≡ met_in (drop l.i (take l.n l.entries))) × (l.count + l.i ≤ l.n)
-
-abbrev pub decreases-loop-i : goal.decreases-loop-i
-decreases-loop-i l = l.i
+invariant-loop-i l = (l.count ≡ met_in (drop l.i (take l.n l.entries))) × (l.count + l.i ≤ l.n)

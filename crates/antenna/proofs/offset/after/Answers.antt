@@ -7,7 +7,9 @@ use borrow.Author.Tests.{le-leb, lt-leb, not-true, not-false}
 use Rattle.telegram.specs.Telegram.{Received, telegram}
 use Rattle.telegram.specs.Place.{are_syncs}
 use Rattle.telegram.specs.Says.{says_telegram_read}
-use Rattle.telegram.specs.declared.TelegramRead.{TelegramRead}
+use Rattle.std.specs.Prelude.{Result, Ok, Err}
+use Rattle.telegram.specs.declared.BadWord.{BadWord}
+use Rattle.telegram.specs.declared.Telegram.{Telegram}
 use Rattle.antenna.specs.declared.Places.{Places}
 use Rattle.antenna.specs.Places.{between, places_after}
 use Rattle.antenna.proofs.offset.after.Goals as goal
@@ -29,7 +31,7 @@ module _ (places : Places) (length v s t : ℕ) where
     by_words e r is = simp (le-leb _ _ enough, e, is)
 
     -- What was read is o.
-    by_answer : are_syncs s t (v / 2 ^ 32) (v % 256) ≡ true → (a o : TelegramRead)
+    by_answer : are_syncs s t (v / 2 ^ 32) (v % 256) ≡ true → (a o : Result Telegram BadWord)
         → says_telegram_read a ≡ telegram (v / 2 ^ 24 % 256) (v / 2 ^ 16 % 256) (v / 2 ^ 8 % 256) → a ≡ o
         → between (says_telegram_read o) (v / 2 ^ 24 % 256) (v / 2 ^ 16 % 256) (v / 2 ^ 8 % 256) (length - 40) places ≡ places_after places length v s t
     by_answer e a o says is = by_words e (says_telegram_read o) (ap says_telegram_read (sym is) ∙ says)
@@ -42,24 +44,17 @@ returns-then-not-are_syncs c =
     let a = c.args in
     no-syncs a.places a.length a.v a.s a.t c.if-length-lt40.false (sym c.are_syncs.ensures ∙ not-true c.are_syncs.result c.if-not-are_syncs.true-raw)
 
-pub returns-in-Is : goal.returns-in-Is
-returns-in-Is c =
+pub returns-in-Ok : goal.returns-in-Ok
+returns-in-Ok c =
     let a = c.args in
     c.another.ensures
     ∙ by_answer a.places a.length a.v a.s a.t c.if-length-lt40.false
     (sym c.are_syncs.ensures ∙ not-false c.are_syncs.result c.if-not-are_syncs.false-raw)
-    c.read.result (TelegramRead.Is c.in-Is.telegram) c.read.ensures c.in-Is.is
+    c.read.result (Ok c.in-Ok.telegram) c.read.ensures c.in-Ok.is
 
-pub returns-in-NotCode : goal.returns-in-NotCode
-returns-in-NotCode c =
+pub returns-in-Err : goal.returns-in-Err
+returns-in-Err c =
     let a = c.args in
     by_answer a.places a.length a.v a.s a.t c.if-length-lt40.false
     (sym c.are_syncs.ensures ∙ not-false c.are_syncs.result c.if-not-are_syncs.false-raw)
-    c.read.result (TelegramRead.NotCode c.in-NotCode.field-0 c.in-NotCode.field-1) c.read.ensures c.in-NotCode.is
-
-pub returns-in-Fifteen : goal.returns-in-Fifteen
-returns-in-Fifteen c =
-    let a = c.args in
-    by_answer a.places a.length a.v a.s a.t c.if-length-lt40.false
-    (sym c.are_syncs.ensures ∙ not-false c.are_syncs.result c.if-not-are_syncs.false-raw)
-    c.read.result (TelegramRead.Fifteen c.in-Fifteen.field-0) c.read.ensures c.in-Fifteen.is
+    c.read.result (Err c.in-Err.field-0) c.read.ensures c.in-Err.is

@@ -11,8 +11,5 @@ abbrev pub invariant-loop-i : goal.invariant-loop-i
 invariant-loop-i l =
     (l.i ≤ l.end)
     × (l.count ≡ zeroes l.h)
-    × ((p q : ℕ) → first l.buf p q (ear l.initial.h (Stand.Inside (parts l.s l.t l.initial.bits l.initial.forty l.initial.ones l.initial.plain l.initial.places))) l.initial.i (l.end - l.initial.i)
+    × ((p q : ℕ) → first l.buf p q (ear l.initial.h (Stand.Inside (parts l.s l.t l.initial.bits l.initial.forty l.initial.ones l.initial.plain l.initial.places))) l.from (l.end - l.from)
     ≡ first l.buf p q (ear l.h (Stand.Inside (parts l.s l.t l.bits l.forty l.ones l.plain l.places))) l.i (l.end - l.i))
-
-abbrev pub decreases-loop-i : goal.decreases-loop-i
-decreases-loop-i l = l.end - l.i

@@ -7,7 +7,8 @@ use borrow.Author.Tests.{le-leb, lt-leb}
 use Rattle.words.specs.Answer.{Outcome, gives, refuses, pick}
 use Rattle.telegram.specs.Sync.{Good, good, is_good, good_pair}
 use Rattle.telegram.specs.Says.{says_pair}
-use Rattle.telegram.specs.declared.Pair.{Pair}
+use Rattle.std.specs.Prelude.{Result, Ok, Err, ⊤}
+use Rattle.telegram.specs.declared.NotSeven.{NotSeven}
 use Rattle.antenna.specs.Sound.{judged}
 use Rattle.antenna.proofs.taking.judged.Goals as goal
 
@@ -16,28 +17,28 @@ abbrev is_given : Outcome Good → Bool
 is_given (gives g) = true
 is_given (refuses n) = false
 
-found : (s t : ℕ) (r o : Pair) → says_pair r ≡ good_pair s t → r ≡ o → is_good s t ≡ is_given (says_pair o)
+found : (s t : ℕ) (r o : Result ⊤ NotSeven) → says_pair r ≡ good_pair s t → r ≡ o → is_good s t ≡ is_given (says_pair o)
 unfolding good_pair
-found s t r o says e = sym (ap (λ (x : Pair). is_given (says_pair x)) (sym e) ∙ ap is_given says ∙ go (is_good s t))
+found s t r o says e = sym (ap (λ (x : Result ⊤ NotSeven). is_given (says_pair x)) (sym e) ∙ ap is_given says ∙ go (is_good s t))
   where
     go : (i : Bool) → is_given (pick i (gives good) (refuses 4)) ≡ i
     go true = refl
     go false = refl
 
-pub returns-in-NotSeven : goal.returns-in-NotSeven
+pub returns-in-Err : goal.returns-in-Err
 unfolding judged
-returns-in-NotSeven c =
+returns-in-Err c =
     let a = c.args.sound in
-    simp (found a.s a.t c.good_pair-pair.result Pair.NotSeven c.good_pair-pair.ensures c.in-NotSeven.is)
+    simp (found a.s a.t c.good_pair.result (Err c.in-Err.field-0) c.good_pair.ensures c.in-Err.is)
 
 pub returns-then-sound-le16777216 : goal.returns-then-sound-le16777216
 unfolding judged
 returns-then-sound-le16777216 c =
     let a = c.args.sound in
-    simp (found a.s a.t c.good_pair-pair.result Pair.Good c.good_pair-pair.ensures c.in-Good.is, le-leb _ _ c.if-sound-le16777216.true) c.by_places.ensures
+    simp (found a.s a.t c.good_pair.result (Ok c.in-Ok.field-0) c.good_pair.ensures c.in-Ok.is, le-leb _ _ c.if-sound-le16777216.true) c.by_places.ensures
 
 pub returns-else-sound-le16777216 : goal.returns-else-sound-le16777216
 unfolding judged
 returns-else-sound-le16777216 c =
     let a = c.args.sound in
-    simp (found a.s a.t c.good_pair-pair.result Pair.Good c.good_pair-pair.ensures c.in-Good.is, lt-leb _ _ c.if-sound-le16777216.false)
+    simp (found a.s a.t c.good_pair.result (Ok c.in-Ok.field-0) c.good_pair.ensures c.in-Ok.is, lt-leb _ _ c.if-sound-le16777216.false)

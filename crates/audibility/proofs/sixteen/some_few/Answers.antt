@@ -11,7 +11,7 @@ use Rattle.audibility.proofs.sixteen.some_few.Invariants.{few}
 use Rattle.audibility.proofs.sixteen.some_few.Goals as goal
 
 pub loop-n-init : goal.loop-n-init
-loop-n-init c = (omega arith, refl)
+loop-n-init c = refl
 
 pub zeroes_from-requires : goal.zeroes_from-requires
 zeroes_from-requires c = (omega arith, omega arith)
@@ -21,17 +21,17 @@ returns-then-zeroes_from-lt5 c =
     let l = c.loop-n in
     let b = c.args.buf.now in
     let e : l.n ≡ suc (l.n - 1) = omega arith in
-    sym (l.invariant.1 ∙ here (few b) l.n (l.n - 1) e (lt-ltb (zeroes_in b (l.n - 1) 16) fewest (omega (arith, c.zeroes_from.ensures, c.if-zeroes_from-lt5.true))))
+    sym (l.invariant ∙ here (few b) l.n (l.n - 1) e (lt-ltb (zeroes_in b (l.n - 1) 16) fewest (omega (arith, c.zeroes_from.ensures, c.if-zeroes_from-lt5.true))))
 
 pub loop-n-preserved : goal.loop-n-preserved
 loop-n-preserved c =
     let l = c.loop-n in
     let b = c.args.buf.now in
     let e : l.n ≡ suc (l.n - 1) = omega arith in
-    (omega arith, l.invariant.1 ∙ not_here (few b) l.n (l.n - 1) e (le-ltb (zeroes_in b (l.n - 1) 16) fewest (omega (arith, c.zeroes_from.ensures, c.if-zeroes_from-lt5.false))))
+    l.invariant ∙ not_here (few b) l.n (l.n - 1) e (le-ltb (zeroes_in b (l.n - 1) 16) fewest (omega (arith, c.zeroes_from.ensures, c.if-zeroes_from-lt5.false)))
 
 pub returns : goal.returns
 unfolding some
 returns c =
     let none : c.loop-n.n ≡ 0 = omega arith in
-    sym (c.loop-n.invariant.1 ∙ ap (some (few c.args.buf.now)) none)
+    sym (c.loop-n.invariant ∙ ap (some (few c.args.buf.now)) none)

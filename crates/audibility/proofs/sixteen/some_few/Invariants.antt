@@ -1,5 +1,5 @@
 -- What the loop keeps true.
-use Prim.Native.Nat.{ℕ, ◌≤◌}
+use Prim.Native.Nat.{ℕ}
 use mathlib.Core.Path.{◌≡◌}
 use mathlib.Core.Bool.{Bool}
 use mathlib.Core.List.{List}
@@ -12,7 +12,4 @@ abbrev pub few : List ℕ → ℕ → Bool
 few b j = ltb (zeroes_in b j 16) fewest
 
 abbrev pub invariant-loop-n : goal.invariant-loop-n
-invariant-loop-n l = (l.n ≤ 64) × (some (few l.buf) 64 ≡ some (few l.buf) l.n)
-
-abbrev pub decreases-loop-n : goal.decreases-loop-n
-decreases-loop-n l = l.n
+invariant-loop-n l = some (few l.buf) 64 ≡ some (few l.buf) l.n

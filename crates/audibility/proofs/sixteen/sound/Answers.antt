@@ -26,7 +26,7 @@ unfolding sound_with
 returns-then-some_few c =
     let a = c.args in
     let w : Words = record { x = a.x; y = a.y; z = a.z } in
-    let good = is_good_law a.s a.t (sym (ap says_pair c.in-Good.is) ∙ c.good_pair.ensures) in
+    let good = is_good_law a.s a.t (sym (ap says_pair c.in-Ok.is) ∙ c.good_pair.ensures) in
     let so : is_broken (sending a.s a.t w) ≡ true = sym (ten_broken a.s a.t w) ∙ sym c.some_few.ensures ∙ c.if-some_few.true in
     ap₂ picked (sym good) (sym so)
 
@@ -35,6 +35,6 @@ unfolding sound_with
 returns-else-some_few c =
     let a = c.args in
     let w : Words = record { x = a.x; y = a.y; z = a.z } in
-    let good = is_good_law a.s a.t (sym (ap says_pair c.in-Good.is) ∙ c.good_pair.ensures) in
+    let good = is_good_law a.s a.t (sym (ap says_pair c.in-Ok.is) ∙ c.good_pair.ensures) in
     let so : is_broken (sending a.s a.t w) ≡ false = sym (ten_broken a.s a.t w) ∙ sym c.some_few.ensures ∙ c.if-some_few.false in
     ap₂ picked (sym good) (sym so)

@@ -8,7 +8,7 @@ use Rattle.audibility.proofs.sixteen.zeroes_from.Goals as goal
 
 pub loop-n-init : goal.loop-n-init
 unfolding zeroes_in
-loop-n-init c = (omega arith, refl, omega arith)
+loop-n-init c = (refl, omega arith)
 
 pub overflow_sub-zeroes : goal.overflow_sub-zeroes
 overflow_sub-zeroes c = omega (arith, c.bit.ensures)
@@ -21,11 +21,11 @@ loop-n-preserved c =
     let l = c.loop-n in
     let a = c.args in
     let more = one_more a.buf.now a.i l.n in
-    (omega arith, omega (arith, more, l.invariant.1, c.bit.ensures), omega (arith, c.bit.ensures))
+    (omega (arith, more, l.invariant.0, c.bit.ensures), omega (arith, c.bit.ensures))
 
 pub returns : goal.returns
 returns c =
     let l = c.loop-n in
     let a = c.args in
     let all : l.n ≡ 16 = omega arith in
-    l.invariant.1 ∙ ap (zeroes_in a.buf.now a.i) all
+    l.invariant.0 ∙ ap (zeroes_in a.buf.now a.i) all

@@ -1,5 +1,5 @@
 -- What the loop keeps true.
-use Prim.Native.Nat.{ℕ, ◌-◌, ◌/◌, ◌≤◌}
+use Prim.Native.Nat.{ℕ, ◌/◌}
 use mathlib.Core.Path.{◌≡◌}
 use mathlib.Core.Bool.{Bool}
 use mathlib.Core.List.{List}
@@ -19,11 +19,7 @@ from ride bytes waits = record { ride = ride; bytes = bytes; waits = waits }
 abbrev pub invariant-loop-i : goal.invariant-loop-i
 invariant-loop-i l =
     (l.count ≡ length l.initial.block / 8)
-    × (l.i ≤ l.count)
     × (length l.block ≡ length l.initial.block)
     × Walk (gap_at l.store) (from l.initial.ride l.initial.bytes l.initial.waits) l.initial.block l.i (from l.ride l.bytes l.waits) l.at l.block
     × Holding l.store l.held
     × Serves (gap_at l.store) l.held.gap l.bytes
-
-abbrev pub decreases-loop-i : goal.decreases-loop-i
-decreases-loop-i l = l.count - l.i

@@ -1,11 +1,7 @@
 -- What the loop keeps true.
-use Prim.Native.Nat.{◌≤◌}
 use mathlib.Core.Path.{◌≡◌}
 use Rattle.contact.specs.Judge.{all_zero}
 use Rattle.contact.proofs.marker.all_zero.Given as goal
 
 abbrev pub invariant-loop-n : goal.invariant-loop-n
-invariant-loop-n l = (l.n ≤ l.len) × (all_zero l.buf l.start l.len ≡ all_zero l.buf l.start l.n)
-
-abbrev pub decreases-loop-n : goal.decreases-loop-n
-decreases-loop-n l = l.n
+invariant-loop-n l = all_zero l.buf l.start l.len ≡ all_zero l.buf l.start l.n

@@ -6,6 +6,3 @@ use Rattle.contact.proofs.marker.ones_at_end.Given as goal
 
 abbrev pub invariant-loop-n : goal.invariant-loop-n
 invariant-loop-n l = (l.ones + l.n ≡ l.len) × (ones_at_end l.buf l.start l.len ≡ l.ones + ones_at_end l.buf l.start l.n)
-
-abbrev pub decreases-loop-n : goal.decreases-loop-n
-decreases-loop-n l = l.n

@@ -10,6 +10,3 @@ abbrev pub invariant-loop-i : goal.invariant-loop-i
 invariant-loop-i l =
     (length l.buf ≡ length l.initial.buf)
     × (puts (each (telegram_of l.bits l.first l.start l.s l.t) l.i (l.n - l.i)) l.buf l.next ≡ puts (each (telegram_of l.bits l.first l.start l.s l.t) 0 (l.n - 0)) l.initial.buf l.at)
-
-abbrev pub decreases-loop-i : goal.decreases-loop-i
-decreases-loop-i l = l.n - l.i

@@ -16,13 +16,6 @@ pub put_strip-next-requires : goal.put_strip-next-requires
 put_strip-next-requires c =
     omega (arith, c.loop-k-test.true, c.requires)
 
-pub overflow_add-k : goal.overflow_add-k
-overflow_add-k c =
-    omega (arith, c.loop-k-test.true, c.requires)
-
-pub loop-k-smaller : goal.loop-k-smaller
-loop-k-smaller c = omega (arith, c.loop-k-test.true)
-
 pub loop-k-preserved : goal.loop-k-preserved
 loop-k-preserved c =
     let l = c.loop-k in

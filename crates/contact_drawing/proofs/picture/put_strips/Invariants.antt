@@ -9,6 +9,3 @@ use Rattle.contact_drawing.proofs.picture.put_strips.Given as goal
 abbrev pub invariant-loop-k : goal.invariant-loop-k
 invariant-loop-k l =
     (length l.buf ≡ length l.initial.buf) × (puts (each (strip l.start) l.k (l.n - l.k)) l.buf l.next ≡ puts (each (strip l.start) 0 (l.n - 0)) l.initial.buf l.at)
-
-abbrev pub decreases-loop-k : goal.decreases-loop-k
-decreases-loop-k l = l.n - l.k

@@ -16,13 +16,6 @@ loop-i-init c = (refl, refl)
 pub overflow_add-first : goal.overflow_add-first
 overflow_add-first c = omega (arith, c.loop-i-test.true, c.requires)
 
-pub overflow_add-i : goal.overflow_add-i
-overflow_add-i c =
-    omega (arith, c.loop-i-test.true, c.requires)
-
-pub loop-i-smaller : goal.loop-i-smaller
-loop-i-smaller c = omega (arith, c.loop-i-test.true)
-
 pub loop-i-preserved : goal.loop-i-preserved
 loop-i-preserved c =
     let l = c.loop-i in

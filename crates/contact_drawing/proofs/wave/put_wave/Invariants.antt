@@ -9,6 +9,3 @@ use Rattle.contact_drawing.proofs.wave.put_wave.Given as goal
 abbrev pub invariant-loop-i : goal.invariant-loop-i
 invariant-loop-i l =
     (length l.buf ≡ length l.initial.buf) × (puts (each (bit_of l.bits l.first) l.i (l.n - l.i)) l.buf l.next ≡ puts (each (bit_of l.bits l.first) 0 (l.n - 0)) l.initial.buf l.at)
-
-abbrev pub decreases-loop-i : goal.decreases-loop-i
-decreases-loop-i l = l.n - l.i

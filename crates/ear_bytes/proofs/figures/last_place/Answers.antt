@@ -6,8 +6,8 @@ use Rattle.ear_bytes.specs.Sizes.{LastFits}
 use borrow.Author.Rules.{rules}
 use Rattle.ear_bytes.proofs.figures.last_place.Goals as goal
 
-pub returns-in-Never : goal.returns-in-Never
-returns-in-Never c = record { value = ap last_place (sym c.in-Never.is); last_fits = subst LastFits (sym c.in-Never.is) tt }
+pub returns-in-None : goal.returns-in-None
+returns-in-None c = record { value = ap last_place (sym c.in-None.is); last_fits = subst LastFits (sym c.in-None.is) tt }
 
-pub returns-in-At : goal.returns-in-At
-returns-in-At c = record { value = ap last_place (sym c.in-At.is); last_fits = subst LastFits (sym c.in-At.is) (search rules) }
+pub returns-in-Some : goal.returns-in-Some
+returns-in-Some c = record { value = ap last_place (sym c.in-Some.is); last_fits = subst LastFits (sym c.in-Some.is) (search rules) }

@@ -33,7 +33,7 @@ returns-in_default c =
 
 pub loop-buffer-smaller : goal.loop-buffer-smaller
 loop-buffer-smaller c =
-    room_less c.next_record-taken.result.bytes c.loop-buffer.buffer c.put_one-at.new.buffer c.loop-buffer.at c.put_one-at.result c.put_one-at.ensures.bytes_len c.loop-buffer-test.true c.put_one-at.ensures.buffer_after
+    room_less _ c.loop-buffer.buffer c.put_one-at.new.buffer c.loop-buffer.at c.put_one-at.result c.put_one-at.ensures.bytes_len c.loop-buffer-test.true c.put_one-at.ensures.buffer_after
 
 pub loop-buffer-preserved : goal.loop-buffer-preserved
 loop-buffer-preserved c =
@@ -42,10 +42,10 @@ loop-buffer-preserved c =
     let then = c.put_one-at.new.buffer in
     let puts = c.put_one-at.ensures.buffer_after in
     let long = c.put_one-at.ensures.bytes_len in (
-      next_place c.next_record-taken.result.bytes c.loop-buffer.buffer then c.loop-buffer.at c.put_one-at.result long room puts,
-      keeps_length c.next_record-taken.result.bytes c.loop-buffer.buffer then c.loop-buffer.at c.put_one-at.result long room puts ∙ c.loop-buffer.invariant.1,
+      next_place _ c.loop-buffer.buffer then c.loop-buffer.at c.put_one-at.result long room puts,
+      keeps_length _ c.loop-buffer.buffer then c.loop-buffer.at c.put_one-at.result long room puts ∙ c.loop-buffer.invariant.1,
       on (coming a.ends a.store a.lead.now) c.loop-buffer.tape c.loop-buffer.frame c.loop-buffer.bit c.loop-buffer.at c.loop-buffer.buffer c.next_record-taken.result c.next_record-taken.ensures room
-          c.in-Record.is long c.put_one-at.result then puts
+          _ c.in-Some.is long c.put_one-at.result then puts
           ∙ c.loop-buffer.invariant.2,
     )
 

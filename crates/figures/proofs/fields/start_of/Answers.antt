@@ -8,8 +8,8 @@ use Rattle.figures.specs.Fields.{place_of, start_of}
 use Rattle.figures.proofs.Signs.{next_start, no_start}
 use Rattle.figures.proofs.fields.start_of.Goals as goal
 
-pub loop-i-init : goal.loop-i-init
-loop-i-init c =
+pub loop-init : goal.loop-init
+loop-init c =
     let a = c.args in
     let e : a.k - 0 ≡ a.k = omega arith in
     let none : 0 + start_of a.text.now a.sign (a.k - 0) ≡ start_of a.text.now a.sign (a.k - 0) = omega arith in
@@ -19,27 +19,27 @@ pub returns-then-text-end : goal.returns-then-text-end
 returns-then-text-end c =
     let a = c.args in
     let t = a.text.now in
-    let at = c.loop-i.at in
-    let m : ℕ = a.k - (c.loop-i.i + 1) in
-    let one : a.k - c.loop-i.i ≡ suc m = omega arith in
+    let at = c.loop.at in
+    let m : ℕ = a.k - (c.loop.counter + 1) in
+    let one : a.k - c.loop.counter ≡ suc m = omega arith in
     let none : length t ≤ place_of t at a.sign = subst (λ (n : ℕ). length t ≤ n) c.place_of-end.ensures c.if-text-end.true in
-    no_start a.sign t at m c.loop-i.invariant.0 none ∙ ap (λ (n : ℕ). at + start_of (drop at t) a.sign n) (sym one) ∙ c.loop-i.invariant.2
+    no_start a.sign t at m c.loop.invariant.0 none ∙ ap (λ (n : ℕ). at + start_of (drop at t) a.sign n) (sym one) ∙ c.loop.invariant.2
 
-pub loop-i-preserved : goal.loop-i-preserved
-loop-i-preserved c =
+pub loop-preserved : goal.loop-preserved
+loop-preserved c =
     let a = c.args in
     let t = a.text.now in
-    let at = c.loop-i.at in
-    let m : ℕ = a.k - (c.loop-i.i + 1) in
-    let one : a.k - c.loop-i.i ≡ suc m = omega arith in
+    let at = c.loop.at in
+    let m : ℕ = a.k - (c.loop.counter + 1) in
+    let one : a.k - c.loop.counter ≡ suc m = omega arith in
     let some : place_of t at a.sign < length t = subst (λ (n : ℕ). n < length t) c.place_of-end.ensures (omega arith) in
     let here = ap (λ (n : ℕ). n + 1 + start_of (drop (n + 1) t) a.sign m) c.place_of-end.ensures in
-    (omega arith, omega arith, here ∙ next_start a.sign t at m c.loop-i.invariant.0 some ∙ ap (λ (n : ℕ). at + start_of (drop at t) a.sign n) (sym one) ∙ c.loop-i.invariant.2)
+    (omega arith, omega arith, here ∙ next_start a.sign t at m c.loop.invariant.0 some ∙ ap (λ (n : ℕ). at + start_of (drop at t) a.sign n) (sym one) ∙ c.loop.invariant.2)
 
 pub returns : goal.returns
 unfolding start_of
 returns c =
     let a = c.args in
-    let all : 0 ≡ a.k - c.loop-i.i = omega arith in
-    let here : c.loop-i.at ≡ c.loop-i.at + 0 = omega arith in
-    here ∙ ap (λ (n : ℕ). c.loop-i.at + start_of (drop c.loop-i.at a.text.now) a.sign n) all ∙ c.loop-i.invariant.2
+    let all : 0 ≡ a.k - c.loop.counter = omega arith in
+    let here : c.loop.at ≡ c.loop.at + 0 = omega arith in
+    here ∙ ap (λ (n : ℕ). c.loop.at + start_of (drop c.loop.at a.text.now) a.sign n) all ∙ c.loop.invariant.2

@@ -8,11 +8,11 @@ use Rattle.group.proofs.contents.link_distance.Goals as goal
 pub returns-then-bz-eq0 : goal.returns-then-bz-eq0
 returns-then-bz-eq0 c =
     c.distance.ensures ∙ ap (distance c.args.by) c.y_of.ensures
-    ∙ sym (rw (c.in-Is.is, eq-eqb c.args.bz 0 c.if-bz-eq0.true))
+    ∙ sym (rw (c.in-Some.is, eq-eqb c.args.bz 0 c.if-bz-eq0.true))
 
 pub returns-else-bz-eq0 : goal.returns-else-bz-eq0
 returns-else-bz-eq0 c =
-    rw (c.in-Is.is, ne_eqb c.args.bz 0 c.if-bz-eq0.false)
+    rw (c.in-Some.is, ne_eqb c.args.bz 0 c.if-bz-eq0.false)
 
-pub returns-in-Missing : goal.returns-in-Missing
-returns-in-Missing c = c.distance-in-Missing.ensures ∙ rw c.in-Missing.is
+pub returns-in-None : goal.returns-in-None
+returns-in-None c = c.distance-in-None.ensures ∙ rw c.in-None.is

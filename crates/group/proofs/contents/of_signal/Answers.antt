@@ -1,25 +1,23 @@
 -- The distance decides; the rest is looked up.
 -- Assumes nothing.
-use mathlib.Core.Path.{sym, ap, ◌∙◌}
-use Rattle.group.specs.Says.{says_measured}
+use Rattle.std.proofs.lemmas.Result.{err_from_is_err_and}
 use Rattle.group.proofs.contents.of_signal.Goals as goal
 
-pub returns-in-Dm : goal.returns-in-Dm
-returns-in-Dm c =
-    let d = sym c.signal_distance.ensures ∙ ap says_measured c.in-Dm.is in
+pub returns-in_err-distance : goal.returns-in_err-distance
+returns-in_err-distance c =
+    let p = err_from_is_err_and c.from_residual.result c.from_residual.ensures.1 in
+    rw (p.1, ← c.in_err-distance.ensures)
+
+pub returns : goal.returns
+returns c =
     rw (
-      d,
-      c.speed-in-Dm.ensures,
+      ← c.in_ok-distance.ensures,
+      c.speed-2.ensures,
       c.speed.ensures,
-      c.y_sought-in-Dm.ensures,
+      c.y_sought-2.ensures,
       c.target_figure-figure.ensures,
       c.z_sought.ensures,
       c.y_sought.ensures,
       c.first_of-prefix.ensures,
       c.first_of-b.ensures,
     )
-
-pub returns-in-NoDistance : goal.returns-in-NoDistance
-returns-in-NoDistance c =
-    let d = sym c.signal_distance.ensures ∙ ap says_measured c.in-NoDistance.is in
-    rw d

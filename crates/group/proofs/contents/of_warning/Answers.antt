@@ -1,15 +1,12 @@
 -- The distance decides.
 -- Assumes nothing.
-use mathlib.Core.Path.{sym, ap, ◌∙◌}
-use Rattle.group.specs.Says.{says_measured}
+use Rattle.std.proofs.lemmas.Result.{err_from_is_err_and}
 use Rattle.group.proofs.contents.of_warning.Goals as goal
 
-pub returns-in-Dm : goal.returns-in-Dm
-returns-in-Dm c =
-    let d = sym c.distance_of.ensures ∙ ap says_measured c.in-Dm.is in
-    rw d
+pub returns-in_err-distance : goal.returns-in_err-distance
+returns-in_err-distance c =
+    let p = err_from_is_err_and c.from_residual.result c.from_residual.ensures.1 in
+    rw (p.1, ← c.in_err-distance.ensures)
 
-pub returns-in-NoDistance : goal.returns-in-NoDistance
-returns-in-NoDistance c =
-    let d = sym c.distance_of.ensures ∙ ap says_measured c.in-NoDistance.is in
-    rw d
+pub returns : goal.returns
+returns c = rw (← c.in_ok-distance.ensures)

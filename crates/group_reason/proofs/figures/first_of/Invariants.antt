@@ -1,12 +1,8 @@
 -- What the loop keeps true.
-use Prim.Native.Nat.{◌≤◌, ◌-◌}
 use mathlib.Core.Path.{◌≡◌}
 use lib.ListN.{take, drop}
 use Rattle.group_reason.specs.Inside.{sought_from}
 use Rattle.group_reason.proofs.figures.first_of.Given as goal
 
 abbrev pub invariant-loop-i : goal.invariant-loop-i
-invariant-loop-i l = (l.i ≤ l.n) × (sought_from l.c l.i (drop l.i (take l.n l.p)) ≡ sought_from l.c 0 (take l.n l.p))
-
-abbrev pub decreases-loop-i : goal.decreases-loop-i
-decreases-loop-i l = l.n - l.i
+invariant-loop-i l = sought_from l.c l.i (drop l.i (take l.n l.p)) ≡ sought_from l.c 0 (take l.n l.p)

@@ -1,22 +1,23 @@
 -- By what was heard, and by what the words read.
 -- Assumes nothing.
 use mathlib.Core.Path.{sym, ap, ◌∙◌}
+use Rattle.std.specs.Prelude.{Err}
 use Rattle.telegram.specs.Says.{says_telegram_read}
 use Rattle.group_reason.proofs.reading.part_heard.Goals as goal
 
-pub returns-in-Is : goal.returns-in-Is
-returns-in-Is c =
-    let e = sym c.read.ensures ∙ ap says_telegram_read c.in-Is.is in
+pub returns-in-Ok : goal.returns-in-Ok
+returns-in-Ok c =
+    let e = sym c.read.ensures ∙ ap says_telegram_read c.in-Ok.is in
     rw (c.in-Words.is, e, c.part_of.ensures)
 
-pub returns-in-NotCode : goal.returns-in-NotCode
-returns-in-NotCode c =
-    let e = sym c.read.ensures ∙ ap says_telegram_read c.in-NotCode.is in
+pub returns-in-Err-NotCode : goal.returns-in-Err-NotCode
+returns-in-Err-NotCode c =
+    let e = sym c.read.ensures ∙ ap says_telegram_read (c.in-Err-NotCode.is ∙ ap Err c.in-Err-NotCode.field-0-is) in
     rw (c.in-Words.is, e)
 
-pub returns-in-Fifteen : goal.returns-in-Fifteen
-returns-in-Fifteen c =
-    let e = sym c.read.ensures ∙ ap says_telegram_read c.in-Fifteen.is in
+pub returns-in-Err-Fifteen : goal.returns-in-Err-Fifteen
+returns-in-Err-Fifteen c =
+    let e = sym c.read.ensures ∙ ap says_telegram_read (c.in-Err-Fifteen.is ∙ ap Err c.in-Err-Fifteen.field-0-is) in
     rw (c.in-Words.is, e)
 
 pub returns-in-Marker : goal.returns-in-Marker

@@ -9,25 +9,23 @@ use Rattle.group_reason.specs.Explain.{read_from}
 use Rattle.group_reason.specs.Says.{says_bad_balise}
 use Rattle.group_reason.specs.Inside.{says_part_read}
 use Rattle.group_reason.proofs.Hearing.{after_none, read_good, read_bad, read_end}
-use borrow.Author.Rules.{rules}
 use Rattle.group_reason.proofs.reading.read_all.Goals as goal
 
 pub loop-i-init : goal.loop-i-init
-loop-i-init c = (search rules, refl, after_none (read_from 0 (take c.args.n c.args.kept)))
+loop-i-init c = (refl, after_none (read_from 0 (take c.args.n c.args.kept)))
 
-pub returns-in-Refused : goal.returns-in-Refused
-returns-in-Refused c =
-    let e = sym c.part_heard.ensures ∙ ap says_part_read c.in-Refused.is in
-    read_bad c.args.kept c.args.n c.loop-i.i c.well_formed.0.1.0.1 c.requires c.loop-i-test.true (says_bad_balise c.in-Refused.bad) e (take c.loop-i.i c.loop-i.parts)
-    ∙ sym c.loop-i.invariant.2
+pub returns-in-Err : goal.returns-in-Err
+returns-in-Err c =
+    let e = sym c.part_heard.ensures ∙ ap says_part_read c.in-Err.is in
+    read_bad c.args.kept c.args.n c.loop-i.i c.well_formed.0.1.0.1 c.requires c.loop-i-test.true (says_bad_balise c.in-Err.bad) e (take c.loop-i.i c.loop-i.parts)
+    ∙ sym c.loop-i.invariant.1
 
 pub loop-i-preserved : goal.loop-i-preserved
 loop-i-preserved c =
-    let e = sym c.part_heard.ensures ∙ ap says_part_read c.in-Is.is in (
-      omega arith,
-      simp length-set c.loop-i.invariant.1,
-      c.loop-i.invariant.2
-          ∙ read_good c.args.kept c.args.n c.loop-i.i c.well_formed.0.1.0.1 c.requires c.loop-i-test.true c.in-Is.part e c.loop-i.parts c.loop-i.invariant.1,
+    let e = sym c.part_heard.ensures ∙ ap says_part_read c.in-Ok.is in (
+      simp length-set c.loop-i.invariant.0,
+      c.loop-i.invariant.1
+          ∙ read_good c.args.kept c.args.n c.loop-i.i c.well_formed.0.1.0.1 c.requires c.loop-i-test.true c.in-Ok.part e c.loop-i.parts c.loop-i.invariant.0,
     )
 
 pub returns : goal.returns
@@ -35,4 +33,4 @@ returns c =
     let last : c.args.n ≡ c.loop-i.i = omega arith in
     ap (λ (m : ℕ). gives (take m c.loop-i.parts)) last
     ∙ read_end c.args.kept c.args.n c.loop-i.i c.well_formed.0.1.0.1 c.requires c.loop-i-test.false (take c.loop-i.i c.loop-i.parts)
-    ∙ sym c.loop-i.invariant.2
+    ∙ sym c.loop-i.invariant.1

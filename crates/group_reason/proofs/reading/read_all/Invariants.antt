@@ -1,5 +1,4 @@
 -- What the loop keeps true.
-use Prim.Native.Nat.{◌-◌, ◌≤◌}
 use mathlib.Core.Path.{◌≡◌}
 use lib.ListN.{length, take, drop}
 use Rattle.group_reason.specs.Explain.{read_from}
@@ -8,7 +7,4 @@ use Rattle.group_reason.proofs.reading.read_all.Given as goal
 
 abbrev pub invariant-loop-i : goal.invariant-loop-i
 invariant-loop-i l =
-    (l.i ≤ l.n) × (length l.parts ≡ 5) × (read_from 0 (take l.n l.kept) ≡ after (take l.i l.parts) (read_from l.i (drop l.i (take l.n l.kept))))
-
-abbrev pub decreases-loop-i : goal.decreases-loop-i
-decreases-loop-i l = l.n - l.i
+    (length l.parts ≡ 5) × (read_from 0 (take l.n l.kept) ≡ after (take l.i l.parts) (read_from l.i (drop l.i (take l.n l.kept))))

@@ -19,17 +19,17 @@ pub overflow_cast-result : goal.overflow_cast-result
 overflow_cast-result c =
     omega (arith, c.opening.ensures.within, long_take c.args.p c.args.n c.well_formed.0.1.0.1 c.requires)
 
-pub returns-in-Is : goal.returns-in-Is
-returns-in-Is c =
+pub returns-in-Ok : goal.returns-in-Ok
+returns-in-Ok c =
     let a = c.args in
-    let e = sym c.fit.ensures ∙ ap says_fitted c.in-Is.is in
+    let e = sym c.fit.ensures ∙ ap says_fitted c.in-Ok.is in
     c.why_row.ensures ∙ sym (ap (λ (v : Outcome Picked). why_fit v (take a.n a.p)) e)
 
-pub returns-in-NoRow : goal.returns-in-NoRow
-returns-in-NoRow c =
+pub returns-in-Err : goal.returns-in-Err
+returns-in-Err c =
     let a = c.args in
     let bs = take a.n a.p in
-    let e = sym c.fit.ensures ∙ ap says_fitted c.in-NoRow.is in
+    let e = sym c.fit.ensures ∙ ap says_fitted c.in-Err.is in
     let run : c.opening.result ≡ opening_run bs = longest_one bs c.opening.result (opening_run bs) c.opening.ensures (run_is_longest bs) in
     let many : a.n ≡ length bs = sym (long_take a.p a.n c.well_formed.0.1.0.1 c.requires) in
     ap₂ (λ (r m : ℕ). because 13 (opens r m)) run many ∙ sym (ap (λ (v : Outcome Picked). why_fit v bs) e)

@@ -1,5 +1,5 @@
 -- What the loop keeps true.
-use Prim.Native.Nat.{◌≤◌, ◌-◌}
+use Prim.Native.Nat.{◌-◌}
 use mathlib.Core.Path.{◌≡◌}
 use lib.ListN.{length, take, drop}
 use Rattle.group_rows.specs.Stands.{rows_of}
@@ -8,11 +8,7 @@ use Rattle.group_rows.proofs.running.follow.Given as goal
 
 abbrev pub invariant-loop-i : goal.invariant-loop-i
 invariant-loop-i l =
-    (l.i ≤ l.n)
-    × Leads (take l.i l.initial.ahead) l.left (rows_of l.at)
+    Leads (take l.i l.initial.ahead) l.left (rows_of l.at)
     × Speeds (rows_of l.at)
     × (length l.ahead ≡ 5)
     × (take (5 - l.i) l.ahead ≡ drop l.i l.initial.ahead)
-
-abbrev pub decreases-loop-i : goal.decreases-loop-i
-decreases-loop-i l = l.n - l.i

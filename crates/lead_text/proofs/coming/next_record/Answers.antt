@@ -1,7 +1,6 @@
 -- `next_record` asks at the lead's end, or of the piece.
 -- Assumes nothing.
-use mathlib.Core.Path.{ap, ◌∙◌}
-use Rattle.recording.specs.Says.{went}
+use mathlib.Core.Path.{◌∙◌}
 use Rattle.lead_text.specs.List.{place_of}
 use Rattle.lead_text.proofs.Next.{at_end, in_piece}
 use Rattle.lead_text.proofs.coming.next_record.Goals as goal
@@ -9,9 +8,9 @@ use Rattle.lead_text.proofs.coming.next_record.Goals as goal
 pub returns-then-ends : goal.returns-then-ends
 returns-then-ends c =
     let a = c.args in
-    c.of_end.ensures ∙ ap went (at_end a.ends a.store a.frames.now (place_of a.here) c.if-ends.true)
+    c.of_end.ensures ∙ at_end a.ends a.store a.frames.now (place_of a.here) c.if-ends.true
 
 pub returns : goal.returns
 returns c =
     let a = c.args in
-    c.of_piece.ensures ∙ ap went (in_piece a.ends a.store a.frames.now (place_of a.here) c.if-ends.false)
+    c.of_piece.ensures ∙ in_piece a.ends a.store a.frames.now (place_of a.here) c.if-ends.false

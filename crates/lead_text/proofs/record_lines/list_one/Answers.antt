@@ -22,16 +22,12 @@ listed c =
 
 pub overflow_add-result : goal.overflow_add-result
 overflow_add-result c =
-    omega (arith, written_in (gap_at c.args.store) c.args.ride c.args.number c.args.bytes c.args.out.now c.args.at c.list-listed.result c.list-listed.new.out _ _ (listed (goal.at-overflow_add-result c).After-list-listed) c.in-Took.is c.requires.at_in_bounds c.list-listed.auto.out)
+    omega (arith, written_in (gap_at c.args.store) c.args.ride c.args.number c.args.bytes c.args.out.now c.args.at c.list-listed.result c.list-listed.new.out _ _ (listed (goal.at-overflow_add-result c).After-list-listed) c.in-Ok.is c.requires.at_in_bounds c.list-listed.auto.out)
 
-pub returns-in-Took : goal.returns-in-Took
-returns-in-Took c =
-    took (gap_at c.args.store) c.args.ride c.args.number c.args.bytes c.args.out.now c.args.at c.list-listed.result c.list-listed.new.out _ _ (listed (goal.at-returns-in-Took c).After-list-listed) c.in-Took.is
+pub returns-in-Ok : goal.returns-in-Ok
+returns-in-Ok c =
+    took (gap_at c.args.store) c.args.ride c.args.number c.args.bytes c.args.out.now c.args.at c.list-listed.result c.list-listed.new.out _ _ (listed (goal.at-returns-in-Ok c).After-list-listed) c.in-Ok.is
 
-pub returns-in-Settings : goal.returns-in-Settings
-returns-in-Settings c =
-    not_refused (gap_at c.args.store) c.args.ride c.args.number c.args.bytes c.args.out.now c.args.at c.list-listed.result c.list-listed.new.out _ (listed (goal.at-returns-in-Settings c).After-list-listed) (ap says_done c.in-Settings.is)
-
-pub returns-in-Length : goal.returns-in-Length
-returns-in-Length c =
-    not_refused (gap_at c.args.store) c.args.ride c.args.number c.args.bytes c.args.out.now c.args.at c.list-listed.result c.list-listed.new.out 16 (listed (goal.at-returns-in-Length c).After-list-listed) (ap says_done c.in-Length.is)
+pub returns-in-Err : goal.returns-in-Err
+returns-in-Err c =
+    not_refused (gap_at c.args.store) c.args.ride c.args.number c.args.bytes c.args.out.now c.args.at c.list-listed.result c.list-listed.new.out _ (listed (goal.at-returns-in-Err c).After-list-listed) (ap says_done c.in-Err.is)

@@ -2,9 +2,6 @@
 use Rattle.std.proofs.Common.{◌≡◌, length}
 use Rattle.line_console.proofs.pieces.all.Given as goal
 
-abbrev pub invariant-loop-turns : goal.invariant-loop-turns
-invariant-loop-turns g l =
+abbrev pub invariant-loop : goal.invariant-loop
+invariant-loop g l =
     (length l.block ≡ 65536) × (length l.buf ≡ 262144) × (length l.kept ≡ 256)
-
-abbrev pub decreases-loop-turns : goal.decreases-loop-turns
-decreases-loop-turns g l = l.turns

@@ -11,14 +11,10 @@ pub returns-then-c-gt57 : goal.returns-then-c-gt57
 unfolding number_on
 returns-then-c-gt57 c = simp (le-leb _ _ c.if-c-lt48.false, lt-leb _ _ c.if-c-gt57.true)
 
-pub returns-in-Is : goal.returns-in-Is
+pub returns-in-Ok : goal.returns-in-Ok
 unfolding number_on
-returns-in-Is c = simp (le-leb _ _ c.if-c-lt48.false, le-leb _ _ c.if-c-gt57.false, c.digit_on.ensures, c.in-Is.is)
+returns-in-Ok c = simp (le-leb _ _ c.if-c-lt48.false, le-leb _ _ c.if-c-gt57.false, c.digit_on.ensures, c.in-Ok.is)
 
-pub returns-in-Above : goal.returns-in-Above
+pub returns-in-Err : goal.returns-in-Err
 unfolding number_on
-returns-in-Above c = simp (le-leb _ _ c.if-c-lt48.false, le-leb _ _ c.if-c-gt57.false, c.in-Above.is)
-
-pub returns-in-Odd : goal.returns-in-Odd
-unfolding number_on
-returns-in-Odd c = simp (le-leb _ _ c.if-c-lt48.false, le-leb _ _ c.if-c-gt57.false, c.in-Odd.is)
+returns-in-Err c = simp (le-leb _ _ c.if-c-lt48.false, le-leb _ _ c.if-c-gt57.false, c.in-Err.is)

@@ -6,14 +6,14 @@ use Rattle.settings.specs.Says.{says_asked}
 use Rattle.recording.specs.Recording.{held_at}
 use Rattle.recording.proofs.going.in_force.Goals as goal
 
-pub returns-in-InForce : goal.returns-in-InForce
+pub returns-in-Ok : goal.returns-in-Ok
 unfolding held_at hold
-returns-in-InForce c =
-    let answer = sym c.at-asked.ensures ∙ ap says_asked c.in-InForce.is in
+returns-in-Ok c =
+    let answer = sym c.at-asked.ensures ∙ ap says_asked c.in-Ok.is in
     rw answer
 
-pub returns-in-Refused : goal.returns-in-Refused
+pub returns-in-Err : goal.returns-in-Err
 unfolding held_at hold
-returns-in-Refused c =
-    let answer = sym c.at-asked.ensures ∙ ap says_asked c.in-Refused.is in
+returns-in-Err c =
+    let answer = sym c.at-asked.ensures ∙ ap says_asked c.in-Err.is in
     rw answer c.none_held.ensures

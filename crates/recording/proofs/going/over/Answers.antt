@@ -4,7 +4,7 @@ use Prim.Native.Nat.{◌≤◌}
 use mathlib.Core.Path.{refl, sym, ap, ◌∙◌, subst⁻¹}
 use native.Mathlib.Omega.{arith}
 use Rattle.settings.specs.declared.Held.{Held}
-use Rattle.recording.specs.Says.{went, says_taken}
+use Rattle.recording.specs.Says.{says_taken}
 use Rattle.recording.proofs.Held.{InForce, none_held_law}
 use Rattle.recording.proofs.Turning.{no_frame, goes}
 use Rattle.recording.proofs.Loop.{within_opened, within_closed, opened, closed, position, on, never}
@@ -63,7 +63,7 @@ returns-in-Closed c =
     c.odometer-given.result c.accepted_after-odometer.result c.with_odometer-here.result c.held_for-held.result
     c.odometer-given.ensures c.accepted_after-odometer.ensures c.with_odometer-here.ensures c.held_for-held.ensures c.hear.result c.hear.ensures
     _ _ _ _ c.in-Closed.is _ _ refl refl in
-    ap says_taken c.of_contact.ensures ∙ ap went t
+    ap says_taken c.of_contact.ensures ∙ t
 
 pub overflow_add-k : goal.overflow_add-k
 overflow_add-k c = omega (arith, c.loop-k-test.true, c.loop-k.invariant.few)
@@ -77,7 +77,7 @@ returns-then-is_due c =
     c.odometer-given.ensures c.accepted_after-odometer.ensures c.with_odometer-here.ensures c.held_for-held.ensures c.hear.result c.hear.ensures
     _ c.in-Over.is c.hears_on-here.result c.is_due.result c.hears_on-here.ensures c.is_due.ensures c.if-is_due.true
     _ _ refl refl in
-    ap says_taken c.of_position.ensures ∙ ap went t
+    ap says_taken c.of_position.ensures ∙ t
 
 pub overflow_add-k-in-Over : goal.overflow_add-k-in-Over
 overflow_add-k-in-Over c = omega (arith, c.loop-k-test.true, c.loop-k.invariant.few)
@@ -106,4 +106,4 @@ pub returns : goal.returns
 returns c =
     let l = c.loop-k in
     let high : _ ≤ l.k = c.loop-k-test.false in
-    c.nothing-2.ensures ∙ ap went (sym (l.invariant.told ∙ no_frame _ _ l.here l.k l.i _ high))
+    c.nothing-2.ensures ∙ sym (l.invariant.told ∙ no_frame _ _ l.here l.k l.i _ high)

@@ -7,6 +7,3 @@ use Rattle.recording_text.proofs.counts.over.Given as goal
 
 abbrev pub invariant-loop-k : goal.invariant-loop-k
 invariant-loop-k l = (over_frames l.piece l.counted l.k (l.n - l.k) ≡ count_frames l.initial.counted l.piece) × (l.n ≡ length l.piece / 16)
-
-abbrev pub decreases-loop-k : goal.decreases-loop-k
-decreases-loop-k l = l.n - l.k

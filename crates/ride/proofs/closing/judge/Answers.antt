@@ -1,35 +1,32 @@
 -- `judge` goes by the judgement, as the definitions do.
-use mathlib.Core.Path.{ap, sym, ◌∙◌}
-use Rattle.group.specs.Says.{says_group_judged}
+use Prim.Native.Nat.{ℕ, ◌<◌}
+use mathlib.Core.Path.{ap, sym, subst, ◌∙◌}
+use native.Mathlib.Omega.{arith}
+use Rattle.words.specs.Answer.{refuses}
+use Rattle.group.specs.declared.GroupRefused.{GroupRefused}
+use Rattle.group.specs.Says.{refused_as, says_group_judged}
 use Rattle.ride.proofs.Cases.{verdict_on}
 use Rattle.ride.proofs.closing.judge.Goals as goal
 
-pub returns-in-Accepted : goal.returns-in-Accepted
-returns-in-Accepted c =
-    let a = c.args in
-    c.accepted.ensures ∙ ap (verdict_on a.group a.known) (sym (ap says_group_judged c.in-Accepted.is) ∙ c.judge.ensures)
+-- Each refusal has a number.
+has_number : (e : GroupRefused) → 0 < refused_as e
+has_number GroupRefused.One = omega arith
+has_number GroupRefused.Many = omega arith
+has_number GroupRefused.Unread = omega arith
+has_number GroupRefused.NoRow = omega arith
+has_number GroupRefused.NoDistance = omega arith
 
-pub returns-in-One : goal.returns-in-One
-returns-in-One c =
-    let a = c.args in
-    c.faulty.ensures ∙ ap (verdict_on a.group a.known) (sym (ap says_group_judged c.in-One.is) ∙ c.judge.ensures)
+pub faulty-requires : goal.faulty-requires
+faulty-requires c = rw c.from.ensures (has_number c.in-Err.refused)
 
-pub returns-in-Many : goal.returns-in-Many
-returns-in-Many c =
+pub returns-in-Ok : goal.returns-in-Ok
+returns-in-Ok c =
     let a = c.args in
-    c.faulty-in-Many.ensures ∙ ap (verdict_on a.group a.known) (sym (ap says_group_judged c.in-Many.is) ∙ c.judge.ensures)
+    c.accepted.ensures ∙ ap (verdict_on a.group a.known) (sym (ap says_group_judged c.in-Ok.is) ∙ c.judge.ensures)
 
-pub returns-in-Unread : goal.returns-in-Unread
-returns-in-Unread c =
+pub returns-in-Err : goal.returns-in-Err
+returns-in-Err c =
     let a = c.args in
-    c.faulty-in-Unread.ensures ∙ ap (verdict_on a.group a.known) (sym (ap says_group_judged c.in-Unread.is) ∙ c.judge.ensures)
-
-pub returns-in-NoRow : goal.returns-in-NoRow
-returns-in-NoRow c =
-    let a = c.args in
-    c.faulty-in-NoRow.ensures ∙ ap (verdict_on a.group a.known) (sym (ap says_group_judged c.in-NoRow.is) ∙ c.judge.ensures)
-
-pub returns-in-NoDistance : goal.returns-in-NoDistance
-returns-in-NoDistance c =
-    let a = c.args in
-    c.faulty-in-NoDistance.ensures ∙ ap (verdict_on a.group a.known) (sym (ap says_group_judged c.in-NoDistance.is) ∙ c.judge.ensures)
+    c.faulty.ensures
+    ∙ ap (λ (n : ℕ). verdict_on a.group a.known (refuses n)) c.from.ensures
+    ∙ ap (verdict_on a.group a.known) (sym (ap says_group_judged c.in-Err.is) ∙ c.judge.ensures)

@@ -1,6 +1,6 @@
 -- What the loop keeps true.
 use mathlib.Core.Path.{◌≡◌}
-use Prim.Native.Nat.{◌-◌, ◌/◌, ◌≤◌}
+use Prim.Native.Nat.{◌/◌}
 use lib.ListN.{length}
 use Rattle.settings.specs.At.{gap_at}
 use Rattle.settings.proofs.Holding.{Holding}
@@ -11,9 +11,5 @@ use Rattle.ride.proofs.trace.over.Given as goal
 abbrev pub invariant-loop-i : goal.invariant-loop-i
 invariant-loop-i l =
     (l.count ≡ length l.trace / 8)
-    × (l.i ≤ l.count)
     × Holding l.store l.held
     × (from_here (gap_at l.store) l.trace l.count l.now l.i ≡ (ride_over (gap_at l.store) l.initial.now 1 (first_records l.count l.trace)).ride)
-
-abbrev pub decreases-loop-i : goal.decreases-loop-i
-decreases-loop-i l = l.count - l.i

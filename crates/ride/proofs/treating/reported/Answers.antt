@@ -1,8 +1,8 @@
 -- `reported` says of the record what it gives.
 use Rattle.ride.proofs.treating.reported.Goals as goal
 
-pub returns-in-Refused : goal.returns-in-Refused
-returns-in-Refused c = rw c.in-Refused.is
+pub returns-in-Err : goal.returns-in-Err
+returns-in-Err c = rw c.in-Err.is
 
-pub returns-in-Lines : goal.returns-in-Lines
-returns-in-Lines c = rw c.in-Lines.is
+pub returns-in-Ok : goal.returns-in-Ok
+returns-in-Ok c = rw c.in-Ok.is

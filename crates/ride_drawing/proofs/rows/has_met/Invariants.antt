@@ -1,5 +1,4 @@
 -- What the loop keeps true.
-use Prim.Native.Nat.{◌-◌, ◌≤◌}
 use mathlib.Core.Path.{◌≡◌}
 use mathlib.Core.Bool.{◌||◌}
 use lib.ListN.{drop}
@@ -8,7 +7,4 @@ use Rattle.ride_drawing.proofs.Entries.{row_of}
 use Rattle.ride_drawing.proofs.rows.has_met.Given as goal
 
 abbrev pub invariant-loop-i : goal.invariant-loop-i
-invariant-loop-i l = (l.i ≤ 64) × ((l.found || has_met l.place (drop l.i (row_of l.run))) ≡ has_met l.place (row_of l.run))
-
-abbrev pub decreases-loop-i : goal.decreases-loop-i
-decreases-loop-i l = 64 - l.i
+invariant-loop-i l = (l.found || has_met l.place (drop l.i (row_of l.run))) ≡ has_met l.place (row_of l.run)

@@ -1,16 +1,16 @@
 -- By whether the entry was met.
 -- Assumes nothing.
+use Rattle.std.proofs.Common.{ℕ, Option}
 use mathlib.Core.Path.{sym, ap}
-use Rattle.acceptance.specs.declared.Met.{Met}
 use Rattle.ride_drawing.specs.Row.{is_by}
 use Rattle.ride_drawing.proofs.rows.is_by.Goals as goal
 
-pub returns-in-Absent : goal.returns-in-Absent
-returns-in-Absent c =
+pub returns-in-None : goal.returns-in-None
+returns-in-None c =
     let a = c.args in
-    ap (λ (m : Met). is_by a.place m) (sym c.in-Absent.is)
+    ap (λ (m : Option ℕ). is_by a.place m) (sym c.in-None.is)
 
-pub returns-in-At : goal.returns-in-At
-returns-in-At c =
+pub returns-in-Some : goal.returns-in-Some
+returns-in-Some c =
     let a = c.args in
-    ap (λ (m : Met). is_by a.place m) (sym c.in-At.is)
+    ap (λ (m : Option ℕ). is_by a.place m) (sym c.in-Some.is)

@@ -1,5 +1,4 @@
 -- What the loop keeps true.
-use Prim.Native.Nat.{◌-◌, ◌≤◌}
 use mathlib.Core.Path.{◌≡◌}
 use lib.ListN.{length, drop}
 use Rattle.ride_drawing.specs.Way.{past}
@@ -9,9 +8,5 @@ use Rattle.ride_drawing.proofs.ways.pass.Given as goal
 abbrev pub invariant-loop-i : goal.invariant-loop-i
 invariant-loop-i l =
     (length l.buf ≡ length l.initial.buf)
-    × (l.i ≤ 64)
     × (to_come l.pen l.place l.until l.known l.now l.i (drop l.i (row_of l.run)) l.buf l.next ≡ to_come l.pen l.place l.until l.known l.pen 0 (row_of l.run) l.initial.buf l.at)
     × ((past l.pen l.now l.i (drop l.i (row_of l.run)) l.place l.until l.known).pen ≡ (past l.pen l.pen 0 (row_of l.run) l.place l.until l.known).pen)
-
-abbrev pub decreases-loop-i : goal.decreases-loop-i
-decreases-loop-i l = 64 - l.i

@@ -1,9 +1,10 @@
 -- `judge` looks at the count, at the first version, and has the others looked at.
-use mathlib.Core.Path.{sym, ap, ◌∙◌}
+use mathlib.Core.Path.{ap, ◌∙◌}
 use Prim.Native.Nat.{◌≤◌}
 use native.Mathlib.Omega.{arith}
 use borrow.Author.Tests.{eq-eqb, ne_eqb}
 use Rattle.settings.specs.Says.{says_verdict}
+use Rattle.settings.proofs.Handed.{handed}
 use Rattle.settings.proofs.Counts.{too_many, empty, first_place_law, first_settings}
 use Rattle.settings.proofs.judging.judge.Goals as goal
 
@@ -19,15 +20,16 @@ returns-then-first-ne0 c =
     first_place_law c.args.store c.if-count-gt32.false c.well_formed.0.1.1.0.1.0.1 some
     (ne_eqb _ _ c.if-first-ne0.true)
 
-pub returns-in-Refused : goal.returns-in-Refused
-returns-in-Refused c =
+pub returns-in_err-settings_of : goal.returns-in_err-settings_of
+returns-in_err-settings_of c =
     let some : 1 ≤ c.args.store.count = omega (arith, c.if-count-eq0.false) in
-    first_settings c.args.store c.if-count-gt32.false c.well_formed.0.1.1.0.1.0.1 some
-    (eq-eqb _ _ c.if-first-ne0.false) _ (sym (ap says_verdict c.in-Refused.is) ∙ c.settings_of-verdict.ensures)
+    ap says_verdict (handed c.from_residual.result c.from_residual.ensures.1)
+    ∙ first_settings c.args.store c.if-count-gt32.false c.well_formed.0.1.1.0.1.0.1 some
+    (eq-eqb _ _ c.if-first-ne0.false) _ c.in_err-settings_of.ensures
 
-pub returns-in-Kept : goal.returns-in-Kept
-returns-in-Kept c =
+pub returns : goal.returns
+returns c =
     let some : 1 ≤ c.args.store.count = omega (arith, c.if-count-eq0.false) in
     c.all_follow.ensures
     ∙ first_settings c.args.store c.if-count-gt32.false c.well_formed.0.1.1.0.1.0.1 some
-    (eq-eqb _ _ c.if-first-ne0.false) _ (sym (ap says_verdict c.in-Kept.is) ∙ c.settings_of-verdict.ensures)
+    (eq-eqb _ _ c.if-first-ne0.false) _ c.in_ok-settings_of.ensures

@@ -1,8 +1,6 @@
 -- `in_force` goes from version to version: what is in force among those from here on is in force
 -- among all.
 use mathlib.Core.Path.{sym, ◌∙◌}
-use native.Mathlib.Omega.{arith}
-use borrow.Author.Rules.{rules}
 use borrow.Author.Tests.{le-leb, lt-leb}
 use Rattle.settings.specs.Store.{versions_of}
 use Rattle.settings.specs.At.{held_at}
@@ -11,11 +9,8 @@ use Rattle.settings.proofs.places.in_force.Goals as goal
 
 pub loop-i-init : goal.loop-i-init
 loop-i-init c =
-    let a = c.args in (
-      search rules,
-      search rules,
-      held_first a.store.versions a.store.count c.well_formed.0.1.1.0.1.0.1 c.requires.1 a.place c.requires.0,
-    )
+    let a = c.args in
+    held_first a.store.versions a.store.count c.well_formed.0.1.1.0.1.0.1 c.requires.1 a.place c.requires.0
 
 pub returns-then-place-next : goal.returns-then-place-next
 unfolding held_at versions_of
@@ -24,17 +19,14 @@ returns-then-place-next c =
     c.holds.ensures
     ∙ held_here a.store.versions a.store.count c.well_formed.0.1.1.0.1.0.1 c.requires.1 c.loop-i.now a.place c.loop-i.i
     c.loop-i-test.true (lt-leb _ _ c.if-place-next.true)
-    ∙ c.loop-i.invariant.2
+    ∙ c.loop-i.invariant
 
 pub loop-i-preserved : goal.loop-i-preserved
 loop-i-preserved c =
-    let a = c.args in (
-      omega arith,
-      omega arith,
-      sym (held_next a.store.versions a.store.count c.well_formed.0.1.1.0.1.0.1 c.requires.1 c.loop-i.now a.place c.loop-i.i
-          c.loop-i-test.true (le-leb _ _ c.if-place-next.false))
-          ∙ c.loop-i.invariant.2,
-    )
+    let a = c.args in
+    sym (held_next a.store.versions a.store.count c.well_formed.0.1.1.0.1.0.1 c.requires.1 c.loop-i.now a.place c.loop-i.i
+    c.loop-i-test.true (le-leb _ _ c.if-place-next.false))
+    ∙ c.loop-i.invariant
 
 pub returns : goal.returns
 unfolding held_at versions_of
@@ -43,4 +35,4 @@ returns c =
     c.holds-2.ensures
     ∙ held_last a.store.versions a.store.count c.well_formed.0.1.1.0.1.0.1 c.requires.1 c.loop-i.now a.place c.loop-i.i
     c.loop-i-test.false
-    ∙ c.loop-i.invariant.2
+    ∙ c.loop-i.invariant

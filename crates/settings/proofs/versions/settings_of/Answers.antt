@@ -7,17 +7,17 @@ use Rattle.settings.proofs.versions.settings_of.Goals as goal
 pub returns-then-allowed : goal.returns-then-allowed
 unfolding settings_of
 returns-then-allowed c =
-    let pair = sym c.good_pair.ensures ∙ ap says_pair c.in-Good.is in
+    let pair = sym c.good_pair.ensures ∙ ap says_pair c.in-Ok.is in
     rw (pair, ← c.allowed.ensures, c.if-allowed.true)
 
-pub returns-in-NotSeven : goal.returns-in-NotSeven
+pub returns-in-Err : goal.returns-in-Err
 unfolding settings_of
-returns-in-NotSeven c =
-    let pair = sym c.good_pair.ensures ∙ ap says_pair c.in-NotSeven.is in
+returns-in-Err c =
+    let pair = sym c.good_pair.ensures ∙ ap says_pair c.in-Err.is in
     rw pair
 
 pub returns-else-allowed : goal.returns-else-allowed
 unfolding settings_of
 returns-else-allowed c =
-    let pair = sym c.good_pair.ensures ∙ ap says_pair c.in-Good.is in
+    let pair = sym c.good_pair.ensures ∙ ap says_pair c.in-Ok.is in
     rw (pair, ← c.allowed.ensures, c.if-allowed.false)

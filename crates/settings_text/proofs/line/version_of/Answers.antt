@@ -8,19 +8,19 @@ returns-in_default c = simp c.in_default.is
 
 pub returns-in_default-gap : goal.returns-in_default-gap
 unfolding version
-returns-in_default-gap c = simp (c.in-Is.is, c.in_default-gap.is)
+returns-in_default-gap c = simp (c.in-Some.is, c.in_default-gap.is)
 
 pub returns-in_default-s : goal.returns-in_default-s
 unfolding version
 returns-in_default-s c =
-    simp (c.in-Is.is, c.in-Is-gap.is, c.in_default-s.is)
+    simp (c.in-Some.is, c.in-Some-gap.is, c.in_default-s.is)
 
 pub returns-in_default-t : goal.returns-in_default-t
 unfolding version
 returns-in_default-t c =
-    simp (c.in-Is.is, c.in-Is-gap.is, c.in-Is-s.is, c.in_default-t.is)
+    simp (c.in-Some.is, c.in-Some-gap.is, c.in-Some-s.is, c.in_default-t.is)
 
 pub returns : goal.returns
 unfolding version
 returns c =
-    simp (c.in-Is.is, c.in-Is-gap.is, c.in-Is-s.is, c.in-Is-t.is)
+    simp (c.in-Some.is, c.in-Some-gap.is, c.in-Some-s.is, c.in-Some-t.is)

@@ -10,7 +10,7 @@ use Rattle.state_bytes.proofs.Bytes.{is_each, more, reads_back}
 use Rattle.state_bytes.proofs.figures.spread.Goals as goal
 
 pub loop-j-init : goal.loop-j-init
-loop-j-init c = (refl, omega arith, λ i h. absurd (omega arith))
+loop-j-init c = (refl, λ i h. absurd (omega arith))
 
 pub loop-j-preserved : goal.loop-j-preserved
 loop-j-preserved c =
@@ -20,14 +20,8 @@ loop-j-preserved c =
     let inside : l.j < length l.bytes = omega arith in
     let wrote : rule l.j ≡ c.byte_of.result = ap (λ (f : ℕ). byte_of f (l.j % 8)) (sym c.nth-figure.ensures.0) ∙ sym c.byte_of.ensures in (
       length-set l.bytes l.j c.byte_of.result ∙ l.invariant.0,
-      subst (λ (n : ℕ). l.j + 1 ≤ n) (sym (length-set l.bytes l.j c.byte_of.result)) (omega arith),
-      subst (λ (b : ℕ). (i : ℕ) → i < l.j + 1 → get_or (set l.bytes l.j b) i 0 ≡ rule i) wrote (more rule 0 l.bytes l.j inside l.invariant.2),
+      subst (λ (b : ℕ). (i : ℕ) → i < l.j + 1 → get_or (set l.bytes l.j b) i 0 ≡ rule i) wrote (more rule 0 l.bytes l.j inside l.invariant.1),
     )
-
-pub loop-j-smaller : goal.loop-j-smaller
-loop-j-smaller c =
-    let l = c.loop-j in
-    subst (λ (n : ℕ). n - (l.j + 1) < length l.bytes - l.j) (sym (length-set l.bytes l.j c.byte_of.result)) (omega arith)
 
 pub returns : goal.returns
 unfolding spread
@@ -36,7 +30,7 @@ returns c =
     let figures = c.args.figures.now in
     let n = length c.args.bytes.now in
     let all : l.j ≡ n = omega arith in
-    let on : (i : ℕ) → i < n → get_or l.bytes i 0 ≡ byte_among figures i = λ i h. l.invariant.2 i (subst (λ (m : ℕ). i < m) (sym all) h) in
+    let on : (i : ℕ) → i < n → get_or l.bytes i 0 ≡ byte_among figures i = λ i h. l.invariant.1 i (subst (λ (m : ℕ). i < m) (sym all) h) in
     let is : l.bytes ≡ spread n figures = is_each (byte_among figures) n 0 l.bytes l.invariant.0 on in
     record { bytes_after = is; by_index = λ i h. ap (λ (b : List ℕ). figure_at_meant b i) is ∙ reads_back figures n i h (omega (arith, c.type_inv.figures i)) }
 

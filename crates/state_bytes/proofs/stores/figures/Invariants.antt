@@ -1,5 +1,5 @@
 -- What the loop keeps true.
-use Prim.Native.Nat.{ℕ, ◌-◌, ◌/◌, ◌%◌, ◌<◌, ◌≤◌}
+use Prim.Native.Nat.{ℕ, ◌/◌, ◌%◌, ◌<◌}
 use mathlib.Core.Path.{◌≡◌}
 use mathlib.Core.List.{List}
 use lib.ListN.{length, get_or}
@@ -15,8 +15,5 @@ rule versions j = version_figure (get_or versions (j / 4) no_version) (j % 4)
 
 abbrev pub invariant-loop-j : goal.invariant-loop-j
 invariant-loop-j l =
-    (length l.figures ≡ 129) × (l.j ≤ 128) × ((i : ℕ) → i < l.j → get_or l.figures i 0 ≡ rule l.versions i)
+    (length l.figures ≡ 129) × ((i : ℕ) → i < l.j → get_or l.figures i 0 ≡ rule l.versions i)
     × ((i : ℕ) → i < l.j → rule l.versions i < width_of (i % 4))
-
-abbrev pub decreases-loop-j : goal.decreases-loop-j
-decreases-loop-j l = 128 - l.j

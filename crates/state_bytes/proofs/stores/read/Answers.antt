@@ -16,7 +16,7 @@ abbrev kept : List Version → ℕ → Store
 kept versions count = record { versions = versions; count = count }
 
 pub loop-i-init : goal.loop-i-init
-loop-i-init c = (refl, omega arith, λ j h. absurd (omega arith))
+loop-i-init c = (refl, λ j h. absurd (omega arith))
 
 pub loop-i-preserved : goal.loop-i-preserved
 loop-i-preserved c =
@@ -27,8 +27,8 @@ loop-i-preserved c =
     let set_long : length (set l.versions l.i v) ≡ 32 = length-set l.versions l.i v ∙ l.invariant.0 in
     let filled : (j : ℕ) → j < l.i + 1 → get_or (set l.versions l.i v) j no_version ≡ version_at bytes j =
     subst (λ (w : Version). (j : ℕ) → j < l.i + 1 → get_or (set l.versions l.i w) j no_version ≡ version_at bytes j) (sym c.version_at.ensures)
-    (more (version_at bytes) no_version l.versions l.i inside l.invariant.2) in
-    (set_long, omega arith, filled)
+    (more (version_at bytes) no_version l.versions l.i inside l.invariant.1) in
+    (set_long, filled)
 
 pub returns : goal.returns
 unfolding store_in
@@ -36,5 +36,5 @@ returns c =
     let l = c.loop-i in
     let bytes = c.args.bytes.now in
     let all : l.i ≡ 32 = omega arith in
-    let on : (j : ℕ) → j < 32 → get_or l.versions j no_version ≡ version_at bytes j = λ j h. l.invariant.2 j (subst (λ (n : ℕ). j < n) (sym all) h) in
+    let on : (j : ℕ) → j < 32 → get_or l.versions j no_version ≡ version_at bytes j = λ j h. l.invariant.1 j (subst (λ (n : ℕ). j < n) (sym all) h) in
     ap₂ kept (is_each (version_at bytes) 32 no_version l.versions l.invariant.0 on) c.figure_at.ensures

@@ -32,17 +32,16 @@ still x d h k j less is same =
     (xor_digit (x / 2 ^ j) ((1 - bit) * (2 ^ 64 - 1)) k ∙ ap₂ bit_xor (other_way ∙ same) (spread bit k small less) ∙ opposite bit small)
 
 pub loop-j-init : goal.loop-j-init
-loop-j-init c = (omega arith, le_refl _, λ k h is same. is)
+loop-j-init c = (le_refl _, λ k h is same. is)
 
 pub loop-j-preserved : goal.loop-j-preserved
 loop-j-preserved c =
     let a = c.args in
     let l = c.loop-j in (
-      omega arith,
-      le_trans (and_le_l l.h _) l.invariant.1,
+      le_trans (and_le_l l.h _) l.invariant.0,
       λ k less is same.
           let more = digit_more (a.x / 2 ^ k) a.d l.j same in
-          still a.x a.d l.h k l.j less (l.invariant.2 k less is more.0) more.1,
+          still a.x a.d l.h k l.j less (l.invariant.1 k less is more.0) more.1,
     )
 
 pub returns : goal.returns
@@ -50,8 +49,8 @@ returns c =
     let a = c.args in
     let l = c.loop-j in
     let all : l.j ≡ 8 = omega arith in (
-      l.invariant.1,
+      l.invariant.0,
       λ k less is same.
           let byte : a.x / 2 ^ k % 2 ^ 8 ≡ a.d % 2 ^ 8 = omega arith in
-          l.invariant.2 k less is (subst (λ (n : ℕ). a.x / 2 ^ k % 2 ^ n ≡ a.d % 2 ^ n) (sym all) byte),
+          l.invariant.1 k less is (subst (λ (n : ℕ). a.x / 2 ^ k % 2 ^ n ≡ a.d % 2 ^ n) (sym all) byte),
     )

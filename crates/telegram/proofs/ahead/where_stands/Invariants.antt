@@ -1,11 +1,8 @@
 -- What the loop keeps true.
-use Prim.Native.Nat.{ℕ, ◌-◌, ◌/◌, ◌%◌, ◌^◌, ◌≤◌, ◌<◌}
+use Prim.Native.Nat.{ℕ, ◌/◌, ◌%◌, ◌^◌, ◌≤◌, ◌<◌}
 use mathlib.Core.Path.{◌≡◌}
 use Rattle.telegram.proofs.ahead.where_stands.Given as goal
 
 abbrev pub invariant-loop-j : goal.invariant-loop-j
 invariant-loop-j l =
-    (l.j ≤ 8) × (l.h ≤ l.m) × ((k : ℕ) → k < 64 → l.m / 2 ^ k % 2 ≡ 1 → l.x / 2 ^ k % 2 ^ l.j ≡ l.d % 2 ^ l.j → l.h / 2 ^ k % 2 ≡ 1)
-
-abbrev pub decreases-loop-j : goal.decreases-loop-j
-decreases-loop-j l = 8 - l.j
+    (l.h ≤ l.m) × ((k : ℕ) → k < 64 → l.m / 2 ^ k % 2 ≡ 1 → l.x / 2 ^ k % 2 ^ l.j ≡ l.d % 2 ^ l.j → l.h / 2 ^ k % 2 ≡ 1)

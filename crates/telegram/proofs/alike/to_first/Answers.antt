@@ -49,11 +49,11 @@ is_place-requires c =
     omega (arith, c.forty-v.ensures, bits_lt c.args.buf.now c.up_to-p-else-h-eq0.result 40)
 
 pub loop-k-init : goal.loop-k-init
-loop-k-init c = (omega arith, below_none _)
+loop-k-init c = below_none _
 
 pub loop-k-preserved : goal.loop-k-preserved
 loop-k-preserved c =
-    (omega arith, below_more _ _ c.loop-k.invariant.1 (sym c.word.ensures ∙ c.if-word.false ∙ c.word-in-loop-k.ensures))
+    (below_more _ _ c.loop-k.invariant (sym c.word.ensures ∙ c.if-word.false ∙ c.word-in-loop-k.ensures))
 
 pub scan-smaller-then-p-stop : goal.scan-smaller-then-p-stop
 scan-smaller-then-p-stop c = omega (arith, c.up_to-p-else-h-eq0.ensures)
@@ -71,7 +71,7 @@ scan-preserved-then-p-stop c =
     ⊎_elim
     (λ z.
     let more : c.if-is_place.count ≡ l.count + 1 = z.count-is in
-    let same : (j : ℕ) → j < 3 → word_in v.result j ≡ word_in kept.result j = λ j h. z.loop-k.invariant.1 j (omega (arith, z.loop-k-test.false)) in
+    let same : (j : ℕ) → j < 3 → word_in v.result j ≡ word_in kept.result j = λ j h. z.loop-k.invariant j (omega (arith, z.loop-k-test.false)) in
     let so_far = turn_alike b a.s a.t a.stop a.first q.result l.count v.result kept.result v.ensures kept.ensures on c.if-is_place.count more (sym c.is_place.ensures ∙ z.if-is_place.true) same in
     (omega arith, omega arith, l.invariant.2 ∙ to_p (goal.at-scan-preserved-then-p-stop c).After-up_to-p-else-h-eq0 ∙ so_far))
     (λ z.

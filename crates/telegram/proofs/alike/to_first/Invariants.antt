@@ -8,10 +8,7 @@ use Rattle.telegram.proofs.SoFar.{so_far_meant, word_in}
 use Rattle.telegram.proofs.alike.to_first.Given as goal
 
 abbrev pub invariant-loop-k : goal.invariant-loop-k
-invariant-loop-k l = (l.k ≤ 3) × ((j : ℕ) → j < l.k → word_in l.v j ≡ word_in l.kept j)
-
-abbrev pub decreases-loop-k : goal.decreases-loop-k
-decreases-loop-k l = 3 - l.k
+invariant-loop-k l = (j : ℕ) → j < l.k → word_in l.v j ≡ word_in l.kept j
 
 abbrev pub invariant-scan : goal.invariant-scan
 invariant-scan l =

@@ -10,7 +10,7 @@ use Rattle.telegram.proofs.bits.filled.Goals as goal
 
 pub loop-k-init : goal.loop-k-init
 unfolding bits_at
-loop-k-init c = (omega arith, refl)
+loop-k-init c = refl
 
 pub overflow_mul-w : goal.overflow_mul-w
 overflow_mul-w c =
@@ -28,11 +28,11 @@ loop-k-preserved c =
     let l = c.loop-k in
     let b = c.byte.ensures in
     let small : get_or a.buf.now (a.i + l.k) 0 < 256 = omega (arith, b) in
-    (omega arith, ap (λ (n : ℕ). l.w * 256 + n) b.0 ∙ byte_more a.buf.now a.i l.k l.w l.invariant.1 small)
+    ap (λ (n : ℕ). l.w * 256 + n) b.0 ∙ byte_more a.buf.now a.i l.k l.w l.invariant small
 
 pub returns : goal.returns
 returns c =
     let a = c.args in
     let l = c.loop-k in
     let all : 8 * l.k ≡ 64 = omega arith in
-    l.invariant.1 ∙ ap (bits_at a.buf.now (8 * a.i)) all
+    l.invariant ∙ ap (bits_at a.buf.now (8 * a.i)) all

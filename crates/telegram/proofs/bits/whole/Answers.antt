@@ -10,7 +10,7 @@ use Rattle.telegram.proofs.bits.whole.Goals as goal
 
 pub loop-k-init : goal.loop-k-init
 unfolding bits_at
-loop-k-init c = (omega arith, refl)
+loop-k-init c = refl
 
 pub overflow_mul-w : goal.overflow_mul-w
 overflow_mul-w c =
@@ -31,11 +31,11 @@ loop-k-preserved c =
     let a = c.args in
     let l = c.loop-k in
     let small : get_or a.buf.now (a.i + l.k) 0 < 256 = omega (arith, c.type_inv.buf (a.i + l.k)) in
-    (omega arith, byte_more a.buf.now a.i l.k l.w l.invariant.1 small)
+    byte_more a.buf.now a.i l.k l.w l.invariant small
 
 pub returns : goal.returns
 returns c =
     let a = c.args in
     let l = c.loop-k in
     let all : 8 * l.k ≡ 64 = omega arith in
-    l.invariant.1 ∙ ap (bits_at a.buf.now (8 * a.i)) all
+    l.invariant ∙ ap (bits_at a.buf.now (8 * a.i)) all

@@ -1,11 +1,8 @@
 -- What the loop keeps true.
-use Prim.Native.Nat.{◌-◌, ◌*◌, ◌≤◌}
+use Prim.Native.Nat.{◌*◌}
 use mathlib.Core.Path.{◌≡◌}
 use Rattle.telegram.specs.Stretch.{bits_at}
 use Rattle.telegram.proofs.bits.whole.Given as goal
 
 abbrev pub invariant-loop-k : goal.invariant-loop-k
-invariant-loop-k l = (l.k ≤ 8) × (l.w ≡ bits_at l.buf (8 * l.i) (8 * l.k))
-
-abbrev pub decreases-loop-k : goal.decreases-loop-k
-decreases-loop-k l = 8 - l.k
+invariant-loop-k l = l.w ≡ bits_at l.buf (8 * l.i) (8 * l.k)

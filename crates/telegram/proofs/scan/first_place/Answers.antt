@@ -46,17 +46,17 @@ pub outer_are_syncs-requires : goal.outer_are_syncs-requires
 outer_are_syncs-requires c =
     omega (arith, c.forty-v.ensures, bits_lt c.args.buf.now c.up_to-p-else-h-eq0.result 40)
 
-pub returns-in-Is : goal.returns-in-Is
-returns-in-Is c =
+pub returns-in-Ok : goal.returns-in-Ok
+returns-in-Ok c =
     let a = c.args in
     let b = a.buf.now in
     let p = c.up_to-p-else-h-eq0.result in
     let v = c.forty-v in
-    let reads = sym c.words_of-read.ensures ∙ ap says_telegram_read c.in-Is.is in
+    let reads = sym c.words_of.ensures ∙ ap says_telegram_read c.in-Ok.is in
     let fit = ap (fits a.s a.t) (sym v.ensures)
     ∙ ap₂ (λ (x y : Bool). x && y) (sym c.outer_are_syncs.ensures ∙ c.if-outer_are_syncs.true) (ap accepted reads) in
     ap (λ (m : Received). gives (at p m)) (sym reads ∙ ap inner v.ensures ∙ inner_is b p)
-    ∙ sym (to_p (goal.at-returns-in-Is c).After-up_to-p-else-h-eq0 ∙ ap (first_of b) (ahead_here b a.s a.t a.stop p c.if-p-stop.true fit))
+    ∙ sym (to_p (goal.at-returns-in-Ok c).After-up_to-p-else-h-eq0 ∙ ap (first_of b) (ahead_here b a.s a.t a.stop p c.if-p-stop.true fit))
 
 pub loop-p-smaller-then-p-stop : goal.loop-p-smaller-then-p-stop
 loop-p-smaller-then-p-stop c = omega (arith, c.up_to-p-else-h-eq0.ensures)
@@ -72,10 +72,8 @@ loop-p-preserved-then-p-stop c =
     λ e. ap (λ (x : Bool). outer && x) e ∙ and-false outer in
     let fit : fits a.s a.t v.result ≡ false =
     ⊎_elim
-    (λ z. refused (ap accepted (sym z.words_of-read.ensures ∙ ap says_telegram_read z.in-NotCode.is)))
-    (⊎_elim
-    (λ z. refused (ap accepted (sym z.words_of-read.ensures ∙ ap says_telegram_read z.in-Fifteen.is)))
-    (λ z. ap (λ (x : Bool). x && accepted (inner v.result)) (sym c.outer_are_syncs.ensures ∙ z.if-outer_are_syncs.false)))
+    (λ z. refused (ap accepted (sym z.words_of.ensures ∙ ap says_telegram_read z.in_default.is)))
+    (λ z. ap (λ (x : Bool). x && accepted (inner v.result)) (sym c.outer_are_syncs.ensures ∙ z.if-outer_are_syncs.false))
     c.if-outer_are_syncs.branch-raw in
     (omega arith, to_p (goal.at-loop-p-preserved-then-p-stop c).After-up_to-p-else-h-eq0 ∙ ap (first_of b) (ahead_not_here b a.s a.t a.stop p c.if-p-stop.true (ap (fits a.s a.t) (sym v.ensures) ∙ fit)))
 

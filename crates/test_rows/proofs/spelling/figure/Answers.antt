@@ -6,16 +6,12 @@ use Rattle.test_rows.specs.Spelling.{or_none, figure_of}
 use Rattle.test_rows.proofs.spelling.figure.Goals as goal
 
 pub overflow_cast-result : goal.overflow_cast-result
-overflow_cast-result c = omega (arith, no_larger _ _ _ (sym c.in-Number.is ∙ c.decimal.ensures))
+overflow_cast-result c = omega (arith, no_larger _ _ _ (sym c.in-Ok.is ∙ c.decimal.ensures))
 
-pub returns-in-Number : goal.returns-in-Number
+pub returns-in-Ok : goal.returns-in-Ok
 unfolding figure_of
-returns-in-Number c = ap or_none (sym c.in-Number.is ∙ c.decimal.ensures)
+returns-in-Ok c = ap or_none (sym c.in-Ok.is ∙ c.decimal.ensures)
 
-pub returns-in-Above : goal.returns-in-Above
+pub returns-in-Err : goal.returns-in-Err
 unfolding figure_of
-returns-in-Above c = ap or_none (sym c.in-Above.is ∙ c.decimal.ensures)
-
-pub returns-in-Odd : goal.returns-in-Odd
-unfolding figure_of
-returns-in-Odd c = ap or_none (sym c.in-Odd.is ∙ c.decimal.ensures)
+returns-in-Err c = ap or_none (sym c.in-Err.is ∙ c.decimal.ensures)

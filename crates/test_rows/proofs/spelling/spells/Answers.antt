@@ -3,20 +3,14 @@ use mathlib.Core.Path.{sym, ap, ◌∙◌}
 use Rattle.test_rows.specs.Spelling.{is, spells}
 use Rattle.test_rows.proofs.spelling.spells.Goals as goal
 
-pub returns-in-Number : goal.returns-in-Number
+pub returns-in-Ok : goal.returns-in-Ok
 unfolding spells
-returns-in-Number c =
+returns-in-Ok c =
     let n = c.args.n in
-    ap (is n) (sym c.in-Number.is) ∙ ap (is n) c.decimal.ensures
+    ap (is n) (sym c.in-Ok.is) ∙ ap (is n) c.decimal.ensures
 
-pub returns-in-Above : goal.returns-in-Above
+pub returns-in-Err : goal.returns-in-Err
 unfolding spells
-returns-in-Above c =
+returns-in-Err c =
     let n = c.args.n in
-    ap (is n) (sym c.in-Above.is) ∙ ap (is n) c.decimal.ensures
-
-pub returns-in-Odd : goal.returns-in-Odd
-unfolding spells
-returns-in-Odd c =
-    let n = c.args.n in
-    ap (is n) (sym c.in-Odd.is) ∙ ap (is n) c.decimal.ensures
+    ap (is n) (sym c.in-Err.is) ∙ ap (is n) c.decimal.ensures

@@ -8,6 +8,3 @@ returns-in-Word c = ap (held_by c.args.figure) (sym c.in-Word.is)
 
 pub returns-in-Unreadable : goal.returns-in-Unreadable
 returns-in-Unreadable c = ap (held_by c.args.figure) (sym c.in-Unreadable.is)
-
-pub returns-in-Unknown : goal.returns-in-Unknown
-returns-in-Unknown c = ap (held_by c.args.figure) (sym c.in-Unknown.is)

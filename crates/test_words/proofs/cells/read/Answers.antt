@@ -19,25 +19,18 @@ unfolding cell_of
 returns-then-begins c = simp (← c.begins.ensures, c.if-begins.true)
 
 pub overflow_cast-n : goal.overflow_cast-n
-overflow_cast-n c = omega (arith, no_larger _ _ _ (sym c.in-Number.is ∙ figured (goal.at-overflow_cast-n c).After-decimal))
+overflow_cast-n c = omega (arith, no_larger _ _ _ (sym c.in-Ok.is ∙ figured (goal.at-overflow_cast-n c).After-decimal))
 
-pub returns-in-Number : goal.returns-in-Number
+pub returns-in-Ok : goal.returns-in-Ok
 unfolding cell_of
-returns-in-Number c =
+returns-in-Ok c =
     let line = c.args.line.now in
-    let e = sym c.in-Number.is ∙ figured (goal.at-returns-in-Number c).After-decimal in
+    let e = sym c.in-Ok.is ∙ figured (goal.at-returns-in-Ok c).After-decimal in
     simp (← c.begins.ensures, c.if-begins.false) (c.columns.ensures ∙ ap (with_figure line) e)
 
-pub returns-in-Above : goal.returns-in-Above
+pub returns-in-Err : goal.returns-in-Err
 unfolding cell_of
-returns-in-Above c =
+returns-in-Err c =
     let line = c.args.line.now in
-    let e = sym c.in-Above.is ∙ figured (goal.at-returns-in-Above c).After-decimal in
-    simp (← c.begins.ensures, c.if-begins.false) (ap (with_figure line) e)
-
-pub returns-in-Odd : goal.returns-in-Odd
-unfolding cell_of
-returns-in-Odd c =
-    let line = c.args.line.now in
-    let e = sym c.in-Odd.is ∙ figured (goal.at-returns-in-Odd c).After-decimal in
+    let e = sym c.in-Err.is ∙ figured (goal.at-returns-in-Err c).After-decimal in
     simp (← c.begins.ensures, c.if-begins.false) (ap (with_figure line) e)

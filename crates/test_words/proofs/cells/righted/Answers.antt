@@ -13,8 +13,3 @@ pub returns-in-Unreadable : goal.returns-in-Unreadable
 returns-in-Unreadable c =
     let a = c.args in
     ap (λ (o : Shown). righted a.figure o a.word) (sym c.in-Unreadable.is)
-
-pub returns-in-Unknown : goal.returns-in-Unknown
-returns-in-Unknown c =
-    let a = c.args in
-    ap (λ (o : Shown). righted a.figure o a.word) (sym c.in-Unknown.is)

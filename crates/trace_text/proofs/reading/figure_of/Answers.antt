@@ -5,16 +5,16 @@ use Rattle.trace_text.proofs.reading.figure_of.Goals as goal
 
 pub returns-then-n-most : goal.returns-then-n-most
 unfolding figure_of
-returns-then-n-most c = simp (c.in-Is.is, lt-leb _ _ c.if-n-most.true)
+returns-then-n-most c = simp (c.in-Ok.is, lt-leb _ _ c.if-n-most.true)
 
 pub returns-else-n-most : goal.returns-else-n-most
 unfolding figure_of
-returns-else-n-most c = simp (c.in-Is.is, le-leb _ _ c.if-n-most.false)
+returns-else-n-most c = simp (c.in-Ok.is, le-leb _ _ c.if-n-most.false)
 
-pub returns-in-Above : goal.returns-in-Above
+pub returns-in-Err-Above : goal.returns-in-Err-Above
 unfolding figure_of
-returns-in-Above c = simp c.in-Above.is
+returns-in-Err-Above c = simp (c.in-Err-Above.is, rw c.in-Err-Above.is at c.in-Err-Above.field-0-is)
 
-pub returns-in-Odd : goal.returns-in-Odd
+pub returns-in-Err-Odd : goal.returns-in-Err-Odd
 unfolding figure_of
-returns-in-Odd c = simp c.in-Odd.is
+returns-in-Err-Odd c = simp (c.in-Err-Odd.is, rw c.in-Err-Odd.is at c.in-Err-Odd.field-0-is)

@@ -14,16 +14,16 @@ returns-in_default c = simp (sym c.is_raw.ensures ∙ not-false c.is_raw.result 
 
 pub returns-in_default-b : goal.returns-in_default-b
 unfolding raw
-returns-in_default-b c = simp (sym c.is_raw.ensures ∙ not-false c.is_raw.result c.if-not-is_raw.false-raw, c.in-Is.is, c.in_default-b.is)
+returns-in_default-b c = simp (sym c.is_raw.ensures ∙ not-false c.is_raw.result c.if-not-is_raw.false-raw, c.in-Some.is, c.in_default-b.is)
 
 pub returns-in_default-c : goal.returns-in_default-c
 unfolding raw
-returns-in_default-c c = simp (sym c.is_raw.ensures ∙ not-false c.is_raw.result c.if-not-is_raw.false-raw, c.in-Is.is, c.in-Is-b.is, c.in_default-c.is)
+returns-in_default-c c = simp (sym c.is_raw.ensures ∙ not-false c.is_raw.result c.if-not-is_raw.false-raw, c.in-Some.is, c.in-Some-b.is, c.in_default-c.is)
 
 pub returns-in_default-d : goal.returns-in_default-d
 unfolding raw
-returns-in_default-d c = simp (sym c.is_raw.ensures ∙ not-false c.is_raw.result c.if-not-is_raw.false-raw, c.in-Is.is, c.in-Is-b.is, c.in-Is-c.is, c.in_default-d.is)
+returns-in_default-d c = simp (sym c.is_raw.ensures ∙ not-false c.is_raw.result c.if-not-is_raw.false-raw, c.in-Some.is, c.in-Some-b.is, c.in-Some-c.is, c.in_default-d.is)
 
 pub returns : goal.returns
 unfolding raw
-returns c = simp (sym c.is_raw.ensures ∙ not-false c.is_raw.result c.if-not-is_raw.false-raw, c.in-Is.is, c.in-Is-b.is, c.in-Is-c.is, c.in-Is-d.is)
+returns c = simp (sym c.is_raw.ensures ∙ not-false c.is_raw.result c.if-not-is_raw.false-raw, c.in-Some.is, c.in-Some-b.is, c.in-Some-c.is, c.in-Some-d.is)

@@ -15,15 +15,15 @@ returns-then-times-eq0 c =
 pub over-requires : goal.over-requires
 over-requires c =
     let a = c.args in
-    let held = held_given a.stand.settings 0 _ (sym c.at-asked.ensures ∙ ap says_asked c.in-InForce.is) in
+    let held = held_given a.stand.settings 0 _ (sym c.at-asked.ensures ∙ ap says_asked c.in-Ok.is) in
     (held.0, held.2)
 
-pub returns-in-Refused : goal.returns-in-Refused
-returns-in-Refused c =
+pub returns-in-Err : goal.returns-in-Err
+returns-in-Err c =
     let a = c.args in
     ap (λ (x : Ending). stopped x a.stand) c.refusal.ensures
     ∙ forwards_refused a.times a.trace.now a.stand _ c.if-times-eq0.false
-    (store_refused a.stand.settings _ (sym c.at-asked.ensures ∙ ap says_asked c.in-Refused.is))
+    (store_refused a.stand.settings _ (sym c.at-asked.ensures ∙ ap says_asked c.in-Err.is))
 
-pub returns-in-InForce : goal.returns-in-InForce
-returns-in-InForce c = c.over.ensures
+pub returns-in-Ok : goal.returns-in-Ok
+returns-in-Ok c = c.over.ensures

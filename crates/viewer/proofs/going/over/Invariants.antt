@@ -1,6 +1,6 @@
 -- What the loop keeps true.
 use mathlib.Core.Path.{◌≡◌}
-use Prim.Native.Nat.{ℕ, ◌-◌, ◌≤◌}
+use Prim.Native.Nat.{ℕ, ◌+◌, ◌-◌}
 use Rattle.settings.specs.declared.Store.{Store}
 use Rattle.settings.proofs.Holding.{Holding}
 use Rattle.ride.specs.declared.Ride.{Ride}
@@ -13,11 +13,7 @@ use Rattle.viewer.proofs.going.over.Given as goal
 abbrev pub here : ℕ → ℕ → Ride → List Ride → Store → Standing
 here number kept ride last store = record { number = number; kept = kept; ride = ride; last = last; settings = store }
 
-abbrev pub invariant-loop-left : goal.invariant-loop-left
-invariant-loop-left l =
+abbrev pub invariant-loop-made : goal.invariant-loop-made
+invariant-loop-made l =
     Holding l.store l.held
-    × (l.left ≤ l.times)
-    × (after (l.times - l.left) (forwards l.left l.trace (here l.number l.kept l.now l.last l.store)) ≡ forwards l.times l.trace (here l.initial.number l.initial.kept l.initial.now l.initial.last l.store))
-
-abbrev pub decreases-loop-left : goal.decreases-loop-left
-decreases-loop-left l = l.left
+    × (after l.made (forwards (l.times - l.made) l.trace (here (l.from.number + l.made) l.kept l.now l.last l.store)) ≡ forwards l.times l.trace (here l.from.number l.initial.kept l.initial.now l.initial.last l.store))

@@ -18,10 +18,10 @@ for_record : (c : After-held_at-held) →
     × (treat a.stand.ride c.held_at-held.result.gap (record_at a.trace.now a.stand.number) ≡ step_of a.stand (record_at a.trace.now a.stand.number))
 for_record c =
     let a = c.args in
-    let asked = held_given a.stand.settings 0 _ (sym c.at-asked.ensures ∙ ap says_asked c.in-InForce.is) in
-    let first : Holding a.stand.settings c.in-InForce.first = rw asked.2 (holding_at a.stand.settings 0 asked.0) in (
-      held_next a.stand.settings c.in-InForce.first c.held_at-held.result a.trace.now a.stand.number asked.0 first c.held_at-held.ensures,
-      held_treats a.stand.settings c.in-InForce.first c.held_at-held.result a.stand.ride a.trace.now a.stand.number asked.0 first c.held_at-held.ensures c.if-number-trace.false,
+    let asked = held_given a.stand.settings 0 _ (sym c.at-asked.ensures ∙ ap says_asked c.in-Ok.is) in
+    let first : Holding a.stand.settings c.in-Ok.first = rw asked.2 (holding_at a.stand.settings 0 asked.0) in (
+      held_next a.stand.settings c.in-Ok.first c.held_at-held.result a.trace.now a.stand.number asked.0 first c.held_at-held.ensures,
+      held_treats a.stand.settings c.in-Ok.first c.held_at-held.result a.stand.ride a.trace.now a.stand.number asked.0 first c.held_at-held.ensures c.if-number-trace.false,
     )
 
 pub returns-then-number-trace : goal.returns-then-number-trace
@@ -32,14 +32,14 @@ returns-then-number-trace c =
 pub step_at-requires : goal.step_at-requires
 step_at-requires c = (c.if-number-trace.false, (for_record c).0.gap)
 
-pub returns-in-Refused : goal.returns-in-Refused
-returns-in-Refused c =
+pub returns-in-Err : goal.returns-in-Err
+returns-in-Err c =
     let a = c.args in
-    c.unmoved-in-Refused.ensures
-    ∙ forward_refused a.trace.now a.stand _ c.if-number-trace.false (store_refused a.stand.settings _ (sym c.at-asked.ensures ∙ ap says_asked c.in-Refused.is))
+    c.unmoved-in-Err.ensures
+    ∙ forward_refused a.trace.now a.stand _ c.if-number-trace.false (store_refused a.stand.settings _ (sym c.at-asked.ensures ∙ ap says_asked c.in-Err.is))
 
-pub returns-in-InForce : goal.returns-in-InForce
-returns-in-InForce c =
+pub returns-in-Ok : goal.returns-in-Ok
+returns-in-Ok c =
     let a = c.args in
-    let held = held_given a.stand.settings 0 _ (sym c.at-asked.ensures ∙ ap says_asked c.in-InForce.is) in
-    c.step_at.ensures ∙ ap (by_step a.stand) (for_record (goal.at-returns-in-InForce c).After-held_at-held).1 ∙ forward_step a.trace.now a.stand c.if-number-trace.false held.0
+    let held = held_given a.stand.settings 0 _ (sym c.at-asked.ensures ∙ ap says_asked c.in-Ok.is) in
+    c.step_at.ensures ∙ ap (by_step a.stand) (for_record (goal.at-returns-in-Ok c).After-held_at-held).1 ∙ forward_step a.trace.now a.stand c.if-number-trace.false held.0

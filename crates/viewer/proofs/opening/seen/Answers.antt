@@ -33,13 +33,13 @@ returns-in_default c =
 pub returns-then-trace-ne0 : goal.returns-then-trace-ne0
 returns-then-trace-ne0 c =
     let a = c.args in
-    let held = held_given a.store 0 _ (sym c.at-asked.ensures ∙ ap says_asked c.in-InForce.is) in
+    let held = held_given a.store 0 _ (sym c.at-asked.ensures ∙ ap says_asked c.in-Ok.is) in
     let none = open_length a.store a.trace.now held.0 (ne_eqb _ _ c.if-trace-ne0.true) in
     nothing_held _ _ a.trace (ap (λ (s : Start). s.answer) none)
 
 pub returns : goal.returns
 returns c =
     let a = c.args in
-    let held = held_given a.store 0 _ (sym c.at-asked.ensures ∙ ap says_asked c.in-InForce.is) in
+    let held = held_given a.store 0 _ (sym c.at-asked.ensures ∙ ap says_asked c.in-Ok.is) in
     let done = open_done a.store a.trace.now held.0 (eq-eqb _ _ c.if-trace-ne0.false) in
     ap (λ (s : Start). slice_of s.answer a.trace) (sym done) ∙ ap (λ (s : Start). lent_to s.answer a.trace) done

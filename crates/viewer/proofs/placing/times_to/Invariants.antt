@@ -8,9 +8,5 @@ use Rattle.viewer.proofs.placing.times_to.Given as goal
 
 abbrev pub invariant-loop-i : goal.invariant-loop-i
 invariant-loop-i l =
-    (l.i ≡ l.number + l.times)
-    × (l.times ≤ length l.trace / 8)
-    × (l.times + times_to l.place (drop l.i (records l.trace)) ≡ times_to l.place (drop l.number (records l.trace)))
-
-abbrev pub decreases-loop-i : goal.decreases-loop-i
-decreases-loop-i l = length l.trace / 8 - l.i
+    (l.i - l.number ≤ length l.trace / 8 - l.number)
+    × (l.i - l.number + times_to l.place (drop l.i (records l.trace)) ≡ times_to l.place (drop l.number (records l.trace)))

@@ -5,6 +5,7 @@ use mathlib.Core.List.{List}
 use native.Mathlib.Omega.{arith}
 use lib.ListN.{length, take, drop, length-drop}
 use lib.Seq.{take_all}
+use Rattle.std.specs.Prelude.{Err}
 use Rattle.figures.specs.Figures.{decimal}
 use Rattle.viewer_text.specs.Commands.{largest, numbered, followed}
 use Rattle.viewer_text.proofs.Letters.{leads_within, unled_is, led_is}
@@ -31,20 +32,23 @@ pub returns-then-blanks-eq0 : goal.returns-then-blanks-eq0
 returns-then-blanks-eq0 c =
     unled_is c.args.letter c.args.rest.now (sym c.begin-blanks.ensures ∙ c.if-blanks-eq0.true)
 
-pub returns-in-Number : goal.returns-in-Number
-returns-in-Number c =
+pub returns-in-Ok : goal.returns-in-Ok
+returns-in-Ok c =
     let a = c.args in
-    c.by.ensures ∙ ap (numbered a.letter) (sym c.in-Number.is) ∙ figured (goal.at-returns-in-Number c).After-decimal
+    c.by.ensures ∙ ap (numbered a.letter) (sym c.in-Ok.is) ∙ figured (goal.at-returns-in-Ok c).After-decimal
 
-pub returns-in-Above : goal.returns-in-Above
-returns-in-Above c =
+pub returns-in-Err-Above : goal.returns-in-Err-Above
+returns-in-Err-Above c =
     let a = c.args in
-    c.by-in-Above.ensures ∙ ap (numbered a.letter) (sym c.in-Above.is) ∙ figured (goal.at-returns-in-Above c).After-decimal
+    c.by-in-Err-Above.ensures
+    ∙ ap (numbered a.letter) (ap Err (sym c.in-Err-Above.field-0-is) ∙ sym c.in-Err-Above.is)
+    ∙ figured (goal.at-returns-in-Err-Above c).After-decimal
 
-pub returns-in-Odd : goal.returns-in-Odd
-returns-in-Odd c =
+pub returns-in-Err-Odd : goal.returns-in-Err-Odd
+returns-in-Err-Odd c =
     let a = c.args in
-    ap (numbered a.letter) (sym c.in-Odd.is) ∙ figured (goal.at-returns-in-Odd c).After-decimal
+    ap (numbered a.letter) (ap Err (sym c.in-Err-Odd.field-0-is) ∙ sym c.in-Err-Odd.is)
+    ∙ figured (goal.at-returns-in-Err-Odd c).After-decimal
 
 pub slice_bounds-decimal-count : goal.slice_bounds-decimal-count
 slice_bounds-decimal-count c = omega (arith, within (goal.at-slice_bounds-decimal-count c).After-begin-blanks)

@@ -20,32 +20,23 @@ loop-n-init c =
     let a = c.args in
     let fits : length a.word.now ≤ length a.text.now = c.if-word-text.false in
     let e : length a.text.now - length a.word.now + 1 ≡ length a.text.now + 1 - length a.word.now = omega arith in
-    (omega arith, ap (stands_before a.text.now a.word.now) e)
+    ap (stands_before a.text.now a.word.now) e
 
 pub returns-then-stands_at : goal.returns-then-stands_at
 returns-then-stands_at c =
     let a = c.args in
-    found a.text.now a.word.now c.loop-n.n c.loop-n-test.true (sym c.stands_at.ensures ∙ c.if-stands_at.true) ∙ c.loop-n.invariant.1
+    found a.text.now a.word.now c.loop-n.n c.loop-n-test.true (sym c.stands_at.ensures ∙ c.if-stands_at.true) ∙ c.loop-n.invariant
 
 pub loop-n-preserved : goal.loop-n-preserved
 loop-n-preserved c =
     let a = c.args in
     let on = found_on a.text.now a.word.now c.loop-n.n c.loop-n-test.true (sym c.stands_at.ensures ∙ c.if-stands_at.false) in
-    (omega (arith, c.loop-n.invariant.0), on ∙ c.loop-n.invariant.1)
+    on ∙ c.loop-n.invariant
 
 pub returns : goal.returns
 returns c =
     let a = c.args in
-    found_none a.text.now a.word.now c.loop-n.n c.loop-n-test.false ∙ c.loop-n.invariant.1
-
-pub overflow_sub-n-in-loop-n : goal.overflow_sub-n-in-loop-n
-overflow_sub-n-in-loop-n c = omega (arith, c.loop-n-test.true)
+    found_none a.text.now a.word.now c.loop-n.n c.loop-n-test.false ∙ c.loop-n.invariant
 
 pub stands_at-requires : goal.stands_at-requires
-stands_at-requires c = omega (arith, c.loop-n-test.true, c.loop-n.invariant.0)
-
-pub overflow_sub-n-in-loop-n-2 : goal.overflow_sub-n-in-loop-n-2
-overflow_sub-n-in-loop-n-2 c = omega (arith, c.loop-n-test.true)
-
-pub loop-n-smaller : goal.loop-n-smaller
-loop-n-smaller c = omega (arith, c.loop-n-test.true)
+stands_at-requires c = omega (arith, c.loop-n-test.true, c.loop-n.auto.n, c.if-word-text.false)

@@ -11,10 +11,10 @@ use Rattle.viewer_text.proofs.finding.stands_at.Goals as goal
 -- the letter lies within the text
 within : (c : In-loop-k) → c.args.at + (c.loop-k.k - 1) < length c.args.text.now
 within c =
-    omega (arith, c.loop-k-test.true, c.loop-k.invariant.0, c.requires)
+    omega (arith, c.loop-k-test.true, c.loop-k.auto.k, c.requires)
 
 pub loop-k-init : goal.loop-k-init
-loop-k-init c = (omega arith, refl)
+loop-k-init c = refl
 
 pub overflow_add-at : goal.overflow_add-at
 overflow_add-at c =
@@ -25,31 +25,15 @@ overflow_add-at c =
 pub bounds-text-at : goal.bounds-text-at
 bounds-text-at c = within (goal.at-bounds-text-at c).In-loop-k
 
-pub bounds-word-k : goal.bounds-word-k
-bounds-word-k c =
-    omega (arith, c.loop-k-test.true, c.loop-k.invariant.0)
-
 pub returns-then-small : goal.returns-then-small
 returns-then-small c =
-    stands_not c.args.text.now c.args.word.now c.args.at c.loop-k.k c.loop-k-test.true (λ e. c.if-small.true (c.small.ensures ∙ e ∙ sym c.small-in-loop-k.ensures)) ∙ c.loop-k.invariant.1
+    stands_not c.args.text.now c.args.word.now c.args.at c.loop-k.k c.loop-k-test.true (λ e. c.if-small.true (c.small.ensures ∙ e ∙ sym c.small-in-loop-k.ensures)) ∙ c.loop-k.invariant
 
 pub loop-k-preserved : goal.loop-k-preserved
 loop-k-preserved c =
     let on = stands_on c.args.text.now c.args.word.now c.args.at c.loop-k.k c.loop-k-test.true (sym c.small.ensures ∙ c.if-small.false ∙ c.small-in-loop-k.ensures) in
-    (omega (arith, c.loop-k.invariant.0), on ∙ c.loop-k.invariant.1)
+    on ∙ c.loop-k.invariant
 
 pub returns : goal.returns
 returns c =
-    stands_done c.args.text.now c.args.word.now c.args.at c.loop-k.k c.loop-k-test.false ∙ c.loop-k.invariant.1
-
-pub overflow_sub-k : goal.overflow_sub-k
-overflow_sub-k c = omega (arith, c.loop-k-test.true)
-
-pub overflow_sub-k-in-loop-k : goal.overflow_sub-k-in-loop-k
-overflow_sub-k-in-loop-k c = omega (arith, c.loop-k-test.true)
-
-pub overflow_sub-k-in-loop-k-2 : goal.overflow_sub-k-in-loop-k-2
-overflow_sub-k-in-loop-k-2 c = omega (arith, c.loop-k-test.true)
-
-pub loop-k-smaller : goal.loop-k-smaller
-loop-k-smaller c = omega (arith, c.loop-k-test.true)
+    stands_done c.args.text.now c.args.word.now c.args.at c.loop-k.k c.loop-k-test.false ∙ c.loop-k.invariant

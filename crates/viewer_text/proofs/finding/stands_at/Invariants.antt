@@ -1,12 +1,8 @@
 -- What the loop keeps true.
 use mathlib.Core.Path.{◌≡◌}
-use Prim.Native.Nat.{◌≤◌}
 use lib.ListN.{length}
 use Rattle.viewer_text.specs.Finding.{stands_at}
 use Rattle.viewer_text.proofs.finding.stands_at.Given as goal
 
 abbrev pub invariant-loop-k : goal.invariant-loop-k
-invariant-loop-k l = (l.k ≤ length l.word) × (stands_at l.text l.at l.word l.k ≡ stands_at l.text l.at l.word (length l.word))
-
-abbrev pub decreases-loop-k : goal.decreases-loop-k
-decreases-loop-k l = l.k
+invariant-loop-k l = stands_at l.text l.at l.word l.k ≡ stands_at l.text l.at l.word (length l.word)

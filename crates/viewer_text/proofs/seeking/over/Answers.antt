@@ -1,7 +1,8 @@
 -- `over` goes over the records that are left: the first of them from here on is the first of all.
+use Rattle.std.proofs.Common.{Option}
 use mathlib.Core.Path.{◌≡◌, sym, ap, ◌∙◌}
 use mathlib.Core.List.{List}
-use Prim.Native.Nat.{ℕ, ◌+◌, ◌-◌, ◌*◌, ◌<◌}
+use Prim.Native.Nat.{ℕ, ◌+◌, ◌-◌, ◌*◌, ◌<◌, ◌≤◌}
 use native.Mathlib.Omega.{arith}
 use lib.ListN.{take, drop, length-replicate}
 use lib.Seq.{length-take-le}
@@ -30,7 +31,7 @@ listed b =
     let eight : b.loop-i.i * 8 + 8 - b.loop-i.i * 8 ≡ 8 = omega arith in
     let small : b.loop-i.i + 1 < largest64 = omega (arith, b.loop-i-test.true) in
     here a.store b.loop-i.now b.loop-i.i a.trace.now b.loop-i.text b.list-listed.new.out b.list-listed.result b.bytes_of-bytes.result
-    b.loop-i-test.true b.requires b.loop-i.invariant.2 small
+    b.loop-i-test.true b.requires b.loop-i.invariant.0 small
     (b.list-listed.ensures
     ∙ ap (λ (n : ℕ). list with_reasons b.loop-i.now a.store (b.loop-i.i + 1) (take n (drop (b.loop-i.i * 8) a.trace.now)) b.loop-i.text) eight)
     b.bytes_of-bytes.ensures
@@ -44,35 +45,46 @@ told h =
     let a = h.args in
     ap (λ (x : List ℕ). has x a.word.now) (sym (listed (goal.at-After-has h).After-bytes_of-bytes).text_is) ∙ sym h.has.ensures
 
+-- no record lies before the first
+none_before : (n : ℕ) → n - n ≡ 0
+none_before n = omega arith
+
+-- and one more before the next
+one_more : (i n : ℕ) → n ≤ i → i + 1 - n ≡ i - n + 1
+one_more i n h = omega arith
+
 pub loop-i-init : goal.loop-i-init
-loop-i-init c = (omega arith, omega arith, length-replicate {A = ℕ} 320 0, further_none _)
+loop-i-init c =
+    let a = c.args in
+    let all : Option ℕ = seek_in a.word.now (gap_at a.store) a.ride (a.number + 1) (records (drop (a.number * 8) a.trace.now)) in
+    (length-replicate {A = ℕ} 320 0, ap (λ (n : ℕ). further n all) (none_before a.number) ∙ further_none all)
 
 pub returns-then-has : goal.returns-then-has
 returns-then-has c =
     let a = c.args in
-    ap (further c.loop-i.times) (sym (seek_here a.word.now a.store c.loop-i.now c.loop-i.i a.trace.now c.loop-i-test.true (told (goal.at-returns-then-has c).After-has ∙ c.if-has.true)))
-    ∙ c.loop-i.invariant.3
+    ap (further (c.loop-i.i - a.number)) (sym (seek_here a.word.now a.store c.loop-i.now c.loop-i.i a.trace.now c.loop-i-test.true (told (goal.at-returns-then-has c).After-has ∙ c.if-has.true)))
+    ∙ c.loop-i.invariant.1
 
 pub loop-i-preserved : goal.loop-i-preserved
 loop-i-preserved c =
     let a = c.args in
+    let so_far = c.loop-i.i - a.number in
     let rest : List (List ℕ) = records (drop ((c.loop-i.i + 1) * 8) a.trace.now) in
     let r = record_at a.trace.now c.loop-i.i in
     let then : Ride = (treat c.loop-i.now (gap_at a.store (odometer_of r)) r).ride in
     let there = c.loop-i-test.true in (
-      omega (arith, c.loop-i.invariant.0),
-      omega (arith, c.loop-i.invariant.0),
       (listed (goal.at-loop-i-preserved c).After-bytes_of-bytes).long,
-      ap (λ (x : Ride). further (c.loop-i.times + 1) (seek_in a.word.now (gap_at a.store) x (c.loop-i.i + 1 + 1) rest)) (listed (goal.at-loop-i-preserved c).After-bytes_of-bytes).ride_is
-          ∙ sym (further_on c.loop-i.times (seek_in a.word.now (gap_at a.store) then (c.loop-i.i + 1 + 1) rest))
-          ∙ ap (further c.loop-i.times) (sym (seek_next a.word.now a.store c.loop-i.now c.loop-i.i a.trace.now there (told (goal.at-loop-i-preserved c).After-has ∙ c.if-has.false)))
-          ∙ c.loop-i.invariant.3,
+      ap (λ (n : ℕ). further n (seek_in a.word.now (gap_at a.store) c.list-listed.result.ride (c.loop-i.i + 1 + 1) rest)) (one_more c.loop-i.i a.number c.loop-i.auto.i)
+          ∙ ap (λ (x : Ride). further (so_far + 1) (seek_in a.word.now (gap_at a.store) x (c.loop-i.i + 1 + 1) rest)) (listed (goal.at-loop-i-preserved c).After-bytes_of-bytes).ride_is
+          ∙ sym (further_on so_far (seek_in a.word.now (gap_at a.store) then (c.loop-i.i + 1 + 1) rest))
+          ∙ ap (further so_far) (sym (seek_next a.word.now a.store c.loop-i.now c.loop-i.i a.trace.now there (told (goal.at-loop-i-preserved c).After-has ∙ c.if-has.false)))
+          ∙ c.loop-i.invariant.1,
     )
 
 pub returns : goal.returns
 returns c =
     let a = c.args in
-    ap (further c.loop-i.times) (sym (seek_none a.word.now a.store c.loop-i.now c.loop-i.i a.trace.now c.loop-i-test.false)) ∙ c.loop-i.invariant.3
+    ap (further (c.loop-i.i - a.number)) (sym (seek_none a.word.now a.store c.loop-i.now c.loop-i.i a.trace.now c.loop-i-test.false)) ∙ c.loop-i.invariant.1
 
 pub slice_bounds-text-end : goal.slice_bounds-text-end
 slice_bounds-text-end c = omega (arith, (listed c).within, (listed c).long)

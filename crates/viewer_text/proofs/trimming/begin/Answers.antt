@@ -21,6 +21,3 @@ pub returns : goal.returns
 returns c =
     let none = leads_end c.args.line.now c.loop-i.i c.loop-i-test.false in
     omega (arith, c.loop-i.invariant)
-
-pub loop-i-smaller : goal.loop-i-smaller
-loop-i-smaller c = omega (arith, c.loop-i-test.true)

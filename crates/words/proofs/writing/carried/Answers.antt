@@ -7,7 +7,6 @@ use native.Mathlib.Nat.{zero-mul, one-mul, add-zero, lt_of_lt_of_le}
 use native.Mathlib.Numerals.{add-one}
 use native.Mathlib.Omega.{arith}
 use lib.Pow.{pow_mono}
-use borrow.Author.Rules.{rules}
 use Rattle.words.specs.Answer.{pick}
 use Rattle.words.specs.Bits.{bit, word}
 use Rattle.words.specs.Plain.{is_check, carriers, carried}
@@ -53,28 +52,28 @@ module _ (c : After-carrier-carries) where
 
   b_is : b ≡ from x i
   unfolding b x i k
-  b_is = ap₂ ◌*◌ c.carrier-carries.ensures (ap (bit x) c.loop-i.invariant.1) ∙ times (is_check i) (bit x (carriers i))
+  b_is = ap₂ ◌*◌ c.carrier-carries.ensures (ap (bit x) c.loop-i.invariant.0) ∙ times (is_check i) (bit x (carriers i))
 
   grown : Spelt (from x) (i + 1) (h + b * one) (one * 2)
   unfolding x i h one
-  grown = spelt_more (from x) i h one b c.loop-i.invariant.2 b_is
+  grown = spelt_more (from x) i h one b c.loop-i.invariant.1 b_is
 
   below : h + b * one < 65536
   unfolding x i h one
-  below = spelt_lt (from x) i h one b c.loop-i.invariant.2 b_is (from_lt x) (omega arith)
+  below = spelt_lt (from x) i h one b c.loop-i.invariant.1 b_is (from_lt x) (omega arith)
 
   worth : one * 2 ≤ 65536
   unfolding x i h one
-  worth = worth_le (from x) i h one b c.loop-i.invariant.2 b_is (from_lt x) (omega arith)
+  worth = worth_le (from x) i h one b c.loop-i.invariant.1 b_is (from_lt x) (omega arith)
 
   counted : k + c.carrier-carries.result ≡ carriers (i + 1)
   unfolding k i carriers
   counted =
-      ap₂ ◌+◌ c.loop-i.invariant.1 c.carrier-carries.ensures ∙ plus (is_check i) (carriers i) ∙ ap carriers (sym (add-one i))
+      ap₂ ◌+◌ c.loop-i.invariant.0 c.carrier-carries.ensures ∙ plus (is_check i) (carriers i) ∙ ap carriers (sym (add-one i))
 
 pub loop-i-init : goal.loop-i-init
 unfolding carriers
-loop-i-init c = (search rules, refl, spelt_none (from c.args.x))
+loop-i-init c = (refl, spelt_none (from c.args.x))
 
 pub overflow_shr-b : goal.overflow_shr-b
 overflow_shr-b c = omega (arith, carriers_le c.loop-i.i)
@@ -101,7 +100,7 @@ overflow_mul-one c = omega (arith, worth c)
 
 pub loop-i-preserved : goal.loop-i-preserved
 unfolding x i h one b k
-loop-i-preserved c = (omega arith, counted c, grown c)
+loop-i-preserved c = (counted c, grown c)
 
 pub returns : goal.returns
 unfolding carried
@@ -110,5 +109,5 @@ returns c =
     let end : l.i ≡ c.args.n = omega arith in
     let n = c.args.n in
     let x = c.args.x in
-    let is : l.h ≡ word (from x) n = l.invariant.2.is ∙ ap (word (from x)) end in
+    let is : l.h ≡ word (from x) n = l.invariant.1.is ∙ ap (word (from x)) end in
     (is, subst (λ (k : ℕ). k < 65536) (sym is) (lt_of_lt_of_le (word_lt (from x) (from_lt x) n) (pow_mono c.requires)))

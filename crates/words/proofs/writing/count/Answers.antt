@@ -2,7 +2,6 @@
 use mathlib.Core.Path.{◌≡◌, refl, sym, ap, ap₂, ◌∙◌, subst}
 use Prim.Native.Nat.{ℕ, ◌+◌, ◌*◌, ◌<◌}
 use native.Mathlib.Omega.{arith}
-use borrow.Author.Rules.{rules}
 use Rattle.words.specs.Bits.{bit}
 use Rattle.words.specs.Plain.{covers, count}
 use Rattle.words.proofs.Digits.{bit_lt, bit_mul}
@@ -28,11 +27,11 @@ module _ (c : After-covers) where
   more : c.loop-i.found + c.covers.result * bit h i ≡ count (covers looks) h (i + 1)
   unfolding looks h i
   more =
-      ap₂ ◌+◌ c.loop-i.invariant.1 (ap (λ (k : ℕ). k * bit h i) c.covers.ensures) ∙ count_more (covers looks) h i
+      ap₂ ◌+◌ c.loop-i.invariant (ap (λ (k : ℕ). k * bit h i) c.covers.ensures) ∙ count_more (covers looks) h i
 
 pub loop-i-init : goal.loop-i-init
 unfolding count
-loop-i-init c = (search rules, refl)
+loop-i-init c = refl
 
 pub overflow_mul-found : goal.overflow_mul-found
 unfolding looks h i
@@ -44,11 +43,11 @@ overflow_add-found c = omega (arith, more c, count_le (looks c) (h c) (i c + 1))
 
 pub loop-i-preserved : goal.loop-i-preserved
 unfolding looks h i
-loop-i-preserved c = (omega arith, more c)
+loop-i-preserved c = more c
 
 pub returns : goal.returns
 returns c =
     let l = c.loop-i in
     let a = c.args in
     let end : l.i ≡ a.n = omega arith in
-    l.invariant.1 ∙ ap (count (covers a.c) a.h) end
+    l.invariant ∙ ap (count (covers a.c) a.h) end

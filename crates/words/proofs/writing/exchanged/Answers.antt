@@ -2,7 +2,6 @@
 use mathlib.Core.Path.{◌≡◌, ap, ◌∙◌}
 use Prim.Native.Nat.{ℕ, ◌+◌, ◌*◌, ◌/◌, ◌%◌, ◌^◌, ◌≤◌, ◌<◌}
 use native.Mathlib.Omega.{arith}
-use borrow.Author.Rules.{rules}
 use Rattle.words.specs.Bits.{bit, word}
 use Rattle.words.specs.Code.{other, exchanged}
 use Rattle.words.proofs.Digits.{bit_lt}
@@ -34,18 +33,18 @@ module _ (c : After-other-at) where
 
   grown : Spelt (from w) (i + 1) (e + b * one) (one * 2)
   unfolding w i e one
-  grown = spelt_more (from w) i e one b c.loop-i.invariant.1 b_is
+  grown = spelt_more (from w) i e one b c.loop-i.invariant b_is
 
   below : e + b * one < 65536
   unfolding w i e one
-  below = spelt_lt (from w) i e one b c.loop-i.invariant.1 b_is (λ j. bit_lt w (other j)) (omega arith)
+  below = spelt_lt (from w) i e one b c.loop-i.invariant b_is (λ j. bit_lt w (other j)) (omega arith)
 
   worth : one * 2 ≤ 65536
   unfolding w i e one
-  worth = worth_le (from w) i e one b c.loop-i.invariant.1 b_is (λ j. bit_lt w (other j)) (omega arith)
+  worth = worth_le (from w) i e one b c.loop-i.invariant b_is (λ j. bit_lt w (other j)) (omega arith)
 
 pub loop-i-init : goal.loop-i-init
-loop-i-init c = (search rules, spelt_none (from c.args.w))
+loop-i-init c = spelt_none (from c.args.w)
 
 pub overflow_shr-b : goal.overflow_shr-b
 overflow_shr-b c = omega (arith, other_lt c.loop-i.i (omega arith))
@@ -64,11 +63,11 @@ overflow_mul-one c = omega (arith, worth c)
 
 pub loop-i-preserved : goal.loop-i-preserved
 unfolding w i e one b
-loop-i-preserved c = (omega arith, grown c)
+loop-i-preserved c = grown c
 
 pub returns : goal.returns
 unfolding exchanged
 returns c =
     let l = c.loop-i in
     let end : l.i ≡ c.args.n = omega arith in
-    l.invariant.1.is ∙ ap (word (from c.args.w)) end
+    l.invariant.is ∙ ap (word (from c.args.w)) end

@@ -1,5 +1,5 @@
 -- What the loop keeps true.
-use Prim.Native.Nat.{ℕ, ◌-◌, ◌≤◌}
+use Prim.Native.Nat.{ℕ}
 use Rattle.words.specs.Bits.{bit}
 use Rattle.words.specs.Code.{other}
 use Rattle.words.proofs.Spelling.{Spelt}
@@ -9,7 +9,4 @@ abbrev pub from : ℕ → ℕ → ℕ
 from w i = bit w (other i)
 
 abbrev pub invariant-loop-i : goal.invariant-loop-i
-invariant-loop-i l = (l.i ≤ l.n) × Spelt (from l.w) l.i l.e l.one
-
-abbrev pub decreases-loop-i : goal.decreases-loop-i
-decreases-loop-i l = l.n - l.i
+invariant-loop-i l = Spelt (from l.w) l.i l.e l.one

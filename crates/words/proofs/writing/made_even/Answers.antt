@@ -2,7 +2,7 @@
 use mathlib.Core.Path.{ap₂}
 use Prim.Native.Nat.{ℕ, ◌+◌, ◌*◌, ◌%◌}
 use native.Mathlib.Omega.{arith}
-use Rattle.words.specs.Plain.{count, made_even}
+use Rattle.words.specs.Plain.{made_even}
 use Rattle.words.proofs.Checking.{worth_le, shifted, added_le}
 use Rattle.words.proofs.writing.made_even.Goals as goal
 

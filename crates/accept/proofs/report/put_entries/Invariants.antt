@@ -1,9 +1,0 @@
--- What the loop keeps true.
-use Rattle.std.proofs.Common.{◌-◌, ◌≤◌}
-use Rattle.accept.proofs.report.put_entries.Given as goal
-
-abbrev pub invariant-loop-i : goal.invariant-loop-i
-invariant-loop-i g l = l.i ≤ 64
-
-abbrev pub decreases-loop-i : goal.decreases-loop-i
-decreases-loop-i g l = 64 - l.i

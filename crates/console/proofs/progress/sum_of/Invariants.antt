@@ -1,9 +1,0 @@
--- What the loop keeps true.
-use Rattle.std.proofs.Common.{◌-◌, length}
-use Rattle.console.proofs.progress.sum_of.Given as goal
-
-abbrev pub invariant-loop-i : goal.invariant-loop-i
-invariant-loop-i l = Unit {0}
-
-abbrev pub decreases-loop-i : goal.decreases-loop-i
-decreases-loop-i l = length l.lengths - l.i

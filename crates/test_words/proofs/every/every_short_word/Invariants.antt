@@ -1,9 +1,0 @@
--- What the loop keeps true.
-use Prim.Native.Nat.{◌-◌}
-use Rattle.test_words.proofs.every.every_short_word.Given as goal
-
-abbrev pub invariant-loop-word : goal.invariant-loop-word
-invariant-loop-word g l = Unit {0}
-
-abbrev pub decreases-loop-word : goal.decreases-loop-word
-decreases-loop-word g l = 256 - l.word
