@@ -107,7 +107,8 @@ fn over(
         stand.whole
     });
     match went {
-        Ok(()) => finish(rt, program, lists, stand),
+        Ok(true) => finish(rt, program, lists, stand),
+        Ok(false) => stand,
         Err(failed) => {
             console::say_goes(rt, program, Err(failed));
             let going = stand.going;

@@ -2,7 +2,7 @@
 // standard output.
 use crate::counts;
 use compaction::Waiting;
-use console::{PassFailed, Stream, System};
+use console::{Stream, System};
 use settings::Store;
 
 // Where the trace stands: what waits, how many records came and how many were kept, and whether all
@@ -84,8 +84,8 @@ pub fn write_cards(
         stand.is_good
     });
     match went {
-        Ok(()) => write_last(rt, stand),
-        Err(PassFailed::NotTaken) => cannot_write(rt),
+        Ok(true) => write_last(rt, stand),
+        Ok(false) => cannot_write(rt),
         Err(failed) => console::say_goes(rt, b"compact", Err(failed)),
     }
 }

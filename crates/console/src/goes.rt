@@ -8,12 +8,10 @@ pub enum Goes {
 }
 
 // Why a pass over cards or leads ended before all were read: the file of this argument cannot be
-// opened any more, or a read of it failed; the lent block has no room for a record or a frame; or a
-// block was not taken, and the closure or the caller says why.
+// opened any more, or a read of it failed; or the lent block has no room for a record or a frame.
 #[derive(Clone, Copy, PartialEq, Eq)]
 pub enum PassFailed {
     CannotOpen(usize),
     CannotRead(usize),
     NoRoom,
-    NotTaken,
 }

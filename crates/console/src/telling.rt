@@ -89,6 +89,5 @@ pub fn say_goes(rt: &impl System, program: &[u8], how: Result<Goes, PassFailed>)
         Err(PassFailed::CannotOpen(number)) => cannot_open(rt, program, number),
         Err(PassFailed::CannotRead(number)) => cannot_read(rt, program, number),
         Err(PassFailed::NoRoom) => {}
-        Err(PassFailed::NotTaken) => {}
     }
 }

@@ -77,7 +77,8 @@ fn draw_blocks(
         true
     });
     match went {
-        Ok(()) => draw_end(rt, plan, drawing, out),
+        Ok(true) => draw_end(rt, plan, drawing, out),
+        Ok(false) => false,
         Err(failed) => {
             console::say_goes(rt, b"draw", Err(failed));
             false

@@ -3,15 +3,15 @@ use crate::pieces::{Piece, begin, kept, next_piece};
 use console::{Goes, PassFailed, System};
 
 // Goes over the whole frames of all leads from this argument on, piece after piece as they come, up
-// to the first that is not taken; how many bytes of a frame that is not whole then stand at the
-// front of the block. A proved loop has to end, and nothing says that a lead does: so it takes no
-// more turns than no run uses up.
+// to the first that is not taken. Where all were: how many bytes of a frame that is not whole then
+// stand at the front of the block. A proved loop has to end, and nothing says that a lead does: so
+// it takes no more turns than no run uses up.
 pub fn over_leads<F: FnMut(&mut [u8]) -> bool>(
     rt: &impl System,
     first: usize,
     block: &mut [u8],
     mut takes: F,
-) -> Result<usize, PassFailed>
+) -> Result<Option<usize>, PassFailed>
     requires { F.IsAlwaysCallable takes }
 {
     let mut leads = begin(first);
@@ -22,10 +22,10 @@ pub fn over_leads<F: FnMut(&mut [u8]) -> bool>(
             how,
         } = next_piece(rt, leads, block);
         if !takes(&mut block[..length]) {
-            return Err(PassFailed::NotTaken);
+            return Ok(None);
         }
         if how? == Goes::End {
-            return Ok(kept(&then));
+            return Ok(Some(kept(&then)));
         }
         leads = then;
     }

@@ -78,7 +78,8 @@ pub fn all(rt: &impl System, store: Store, first: usize) {
         true
     });
     match went {
-        Ok(_) => end(rt, underway, store, &mut out),
+        Ok(Some(_)) => end(rt, underway, store, &mut out),
+        Ok(None) => {}
         Err(failed) => leads::say(rt, b"live", Err(failed)),
     }
 }

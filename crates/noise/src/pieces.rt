@@ -10,9 +10,10 @@ pub fn all(rt: &impl System, seed: u32, chance: u32, block: &mut [u8]) {
         console::put(rt, b"noise", frames, frames.len())
     });
     match went {
-        Ok(kept) => {
+        Ok(Some(kept)) => {
             console::put(rt, b"noise", block, kept);
         }
+        Ok(None) => {}
         Err(failed) => leads::say(rt, b"noise", Err(failed)),
     }
 }

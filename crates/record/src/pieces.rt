@@ -1,7 +1,7 @@
 // The leads, piece by piece.
 use crate::out;
 use crate::out::RecordsOut;
-use console::{PassFailed, System};
+use console::System;
 use recording::Tape;
 use recording_text::{Frames, Records};
 use settings::Store;
@@ -157,8 +157,8 @@ pub fn all(rt: &impl System, store: Store, first: usize) {
         stand.is_good
     });
     match went {
-        Ok(bytes) => at_end(rt, stand, bytes),
-        Err(PassFailed::NotTaken) => out::cannot_write(rt),
+        Ok(Some(bytes)) => at_end(rt, stand, bytes),
+        Ok(None) => out::cannot_write(rt),
         Err(failed) => leads::say(rt, b"record", Err(failed)),
     }
 }

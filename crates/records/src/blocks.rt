@@ -1,7 +1,7 @@
 // The records of the cards, block by block.
 ghost use Rattle.std.specs.Prelude.{◌≡◌, length};
 
-use console::{PassFailed, System};
+use console::System;
 use trace_text::Said;
 
 // 8,192 bytes: 1,024 records, whose lines have 50 bytes each at most.
@@ -66,8 +66,8 @@ pub fn write_cards(rt: &impl System, lengths: &[u64], block: &mut [u8]) {
         true
     });
     match went {
-        Ok(()) => {}
-        Err(PassFailed::NotTaken) => console::cannot_write(rt, b"records"),
+        Ok(true) => {}
+        Ok(false) => console::cannot_write(rt, b"records"),
         Err(failed) => console::say_goes(rt, b"records", Err(failed)),
     }
 }

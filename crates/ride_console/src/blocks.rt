@@ -4,6 +4,7 @@ ghost use Rattle.std.specs.Prelude.{◌≤◌};
 use crate::saying::{say_failed, write};
 use console::System;
 use ride::Ride;
+use ride_text::{PLAIN, REASONS};
 use settings::Store;
 
 // How many bytes of a lent block are used at once: 8,192 records of 128 bytes of lines fill the
@@ -30,33 +31,31 @@ pub struct Listing {
     number: u64,
 }
 
-// Lists the records and writes their lines; where the ride stands then, if that succeeded. Where out
-// has room for the lines of them all, one call of `list` takes them all.
+// Lists the records and writes their lines, and goes on to where the ride stands then; whether that
+// succeeded. Where out has room for the lines of them all, one call of `list` takes them all.
 fn write_records(
     rt: &impl System,
     program: &[u8],
     reasons: bool,
     store: Store,
-    from: Listing,
+    stand: &mut Listing,
     records: &[u8],
     out: &mut [u8],
-) -> Option<Listing> {
-    let ride = from.ride;
-    let listed = ride_text::list(reasons, ride, store, from.number, records, out);
+) -> bool {
+    let ride = stand.ride;
+    let listed = ride_text::list(reasons, ride, store, stand.number, records, out);
     let done = listed.done;
     let after = listed.ride;
     let number = listed.number;
     let Ok(took) = done else {
-        return None;
+        return false;
+    };
+    *stand = Listing {
+        ride: after,
+        number,
     };
     let is_written = write(rt, program, reasons, out, took.bytes);
-    if is_written & (took.records == records.len() / 8) {
-        return Some(Listing {
-            ride: after,
-            number,
-        });
-    }
-    None
+    is_written & (took.records == records.len() / 8)
 }
 
 // Writes the line of a group that the end of the ride closes.
@@ -67,7 +66,8 @@ fn write_end(rt: &impl System, program: &[u8], reasons: bool, ride: Ride) {
 }
 
 // The lines of all records of the cards from this argument on, whose lengths were kept, as one ride
-// under the settings, and of its end; or what failed.
+// under the settings, and of its end; or what failed. How lines are written stands in each closure
+// as a constant: looked up through one, it would keep the reasons in a program that gives none.
 pub fn over(
     rt: &impl System,
     program: &[u8],
@@ -80,19 +80,21 @@ pub fn over(
 ) {
     let ride = ride::fresh();
     let mut stand = Listing { ride, number: 1 };
-    let went = console::over_cards(rt, first, lengths, block, |records| {
-        let listed = write_records(rt, program, reasons, store, stand, records, out);
-        let Some(then) = listed else {
-            return false;
-        };
-        stand = then;
-        true
-    });
+    let went = if reasons {
+        console::over_cards(rt, first, lengths, block, |records| {
+            write_records(rt, program, REASONS, store, &mut stand, records, out)
+        })
+    } else {
+        console::over_cards(rt, first, lengths, block, |records| {
+            write_records(rt, program, PLAIN, store, &mut stand, records, out)
+        })
+    };
     match went {
-        Ok(()) => {
+        Ok(true) => {
             let last = stand.ride;
             write_end(rt, program, reasons, last);
         }
+        Ok(false) => {}
         Err(failed) => say_failed(rt, program, reasons, failed),
     }
 }

@@ -65,6 +65,5 @@ pub fn say_failed(rt: &impl System, program: &[u8], reasons: bool, failed: PassF
             say_found(rt, program, reasons, CardsWrong::CannotRead(card));
         }
         PassFailed::NoRoom => {}
-        PassFailed::NotTaken => {}
     }
 }

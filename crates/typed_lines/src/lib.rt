@@ -42,7 +42,9 @@ pub struct NextLine {
     pub number: u64,
 }
 
-// Before the first line of an open file.
+// Before the first line of an open file. (Compiled into a loop over lines, its words would have the
+// compiler copy each line field by field.)
+#[inline(never)]
 pub fn begin() -> TextPass {
     TextPass {
         reader: lines::fresh(),
@@ -108,7 +110,7 @@ fn first_line(
     file: &mut Source,
     pass: TextPass,
     block: &mut [u8],
-) -> Result<NextLine, CannotRead> {
+) -> Result<Option<NextLine>, CannotRead> {
     let got = console::fill(rt, file, block);
     if got.failed {
         return Err(CannotRead);
@@ -118,25 +120,27 @@ fn first_line(
     on(rt, file, with_block(pass, reader, got.count, at), block)
 }
 
-// What stands after the last newline, where the text ends.
+// What stands after the last newline, where the text ends. (Likewise.)
+#[inline(never)]
 fn last_line(reader: Reader) -> Got {
     lines::next_line(reader, b"", 0)
 }
 
-// The next line, block after block. A proved loop has to end, and nothing says that a file does: so
-// it takes no more turns than no run uses up.
+// The next line, block after block, as `next` answers it: made anew there, each answer would be one
+// more copy of a line. A proved loop has to end, and nothing says that a file does: so it takes no
+// more turns than no run uses up.
 fn on(
     rt: &impl System,
     file: &mut Source,
     pass: TextPass,
     block: &mut [u8],
-) -> Result<NextLine, CannotRead> {
+) -> Result<Option<NextLine>, CannotRead> {
     let mut here = pass;
     for _ in 0..u64::MAX {
         let reader = here.reader;
         let got = in_block(reader, block, here.count, here.at);
         if got.ends {
-            return Ok(one_line(here, got, false));
+            return Ok(Some(one_line(here, got, false)));
         }
         let after = got.reader;
         let more = console::fill(rt, file, block);
@@ -145,7 +149,7 @@ fn on(
             return Err(CannotRead);
         }
         if count == 0 {
-            return Ok(one_line(here, last_line(after), true));
+            return Ok(Some(one_line(here, last_line(after), true)));
         }
         here = with_block(here, after, count, 0);
     }
@@ -163,7 +167,7 @@ pub fn next(
         return Ok(None);
     }
     if !pass.is_begun {
-        return Ok(Some(first_line(rt, file, pass, block)?));
+        return first_line(rt, file, pass, block);
     }
-    Ok(Some(on(rt, file, pass, block)?))
+    on(rt, file, pass, block)
 }
